@@ -1,0 +1,3 @@
+-- What a handle's bits say, and that they come back whole.
+pub mod Bits
+pub mod RoundTrip

@@ -1,0 +1,72 @@
+-- What an answer says of the rules that led to it, and how a call's proof uses the tests that it ran.
+use Prim.{Unit, tt}
+use Prim.Native.Nat.{ℕ}
+use native.Mathlib.Omega.{arith}
+use mathlib.Core.Bool.{Bool, true, false}
+use mathlib.Core.Path.{_≡_, refl, sym, ap, _∙_}
+use mathlib.Core.List.{List, [], _∷_, _++_}
+use Rattle.refusal.specs.Table.{Rule, _when_, Answer, granted, refused, _orElse_, _otherwise_, passing, valueOf, leftOf, Did}
+
+pub not-refused : {A : Type 0} {n : ℕ} {v : A} → granted v ≡ refused n → ⊥
+not-refused e = let z : _≡_ {A = ℕ} 0 1 = cc in omega arith
+
+-- a value is granted only past each rule
+pub passed : {A : Type 0} {v : A} (n : ℕ) (t : Bool) (rest : List Rule) (a : Answer A) → granted v ≡ (n when t ∷ rest orElse a) → (t ≡ false) × (granted v ≡ (rest orElse a))
+unfolding _orElse_
+passed n true rest a e = absurd (not-refused e)
+passed n false rest a e = (refl, e)
+
+-- the value that is granted is the one that the rule names
+pub value-of : {A : Type 0} {v : A} (rules : List Rule) (w : A) → granted v ≡ (rules otherwise w) → v ≡ w
+unfolding _orElse_
+value-of [] w e = cc
+value-of (n when t ∷ rest) w e = value-of rest w (passed n t rest (granted w) e .1)
+
+-- where the only rule refuses, it applies
+pub stopped : {A : Type 0} (m n : ℕ) (t : Bool) (w : A) → refused m ≡ (n when t ∷ [] otherwise w) → (t ≡ true) × (m ≡ n)
+unfolding _orElse_
+stopped m n true w e = (refl, cc)
+stopped m n false w e = absurd (not-refused (sym e))
+
+-- tests that all passed leave what follows them, and the first that refuses decides
+pub past : {A : Type 0} (rules : List Rule) (a : Answer A) → granted tt ≡ passing rules → (rules orElse a) ≡ a
+unfolding _orElse_
+past [] a e = refl
+past (n when true ∷ rest) a e = absurd (not-refused e)
+past (n when false ∷ rest) a e = past rest a e
+
+pub halted : {A : Type 0} {m : ℕ} (rules : List Rule) (a : Answer A) → refused m ≡ passing rules → (rules orElse a) ≡ refused m
+unfolding _orElse_
+halted [] a e = absurd (not-refused (sym e))
+halted (n when true ∷ rest) a e = cc
+halted (n when false ∷ rest) a e = halted rest a e
+
+-- rules in two parts: those of the first part come first
+pub parts : {A : Type 0} (rules more : List Rule) (a : Answer A) → (rules ++ more orElse a) ≡ (rules orElse (more orElse a))
+unfolding _orElse_
+parts [] more a = refl
+parts (n when true ∷ rest) more a = refl
+parts (n when false ∷ rest) more a = parts rest more a
+
+module _ {A S : Type 0} {rule : Answer (A × S)} {lent : S} where
+  pub grant : {v : A} {s : S} → rule ≡ granted (v, s) → Did rule lent (granted v) s
+  grant e = record { answer = ap valueOf (sym e); leaves = ap (λ (r : Answer (A × S)). leftOf r lent) (sym e) }
+
+  pub refuse : {n : ℕ} → rule ≡ refused n → Did rule lent (refused n) lent
+  refuse e = record { answer = ap valueOf (sym e); leaves = ap (λ (r : Answer (A × S)). leftOf r lent) (sym e) }
+
+  -- a call that did what another rule says, which says the same here
+  pub via : {rule′ : Answer (A × S)} {a : Answer A} {s : S} → rule ≡ rule′ → Did rule′ lent a s → Did rule lent a s
+  via e d = rw e d
+
+  -- no second answer and no second state fit
+  pub determined : {a b : Answer A} {s t : S} → Did rule lent a s → Did rule lent b t → (a ≡ b) × (s ≡ t)
+  determined d e = (d .answer ∙ sym (e .answer), d .leaves ∙ sym (e .leaves))
+
+-- no second result fits a promise, where the document's answer tells the results apart
+module _ {A R : Type 0} (answerOf : R → Answer A) (tells : (r r′ : R) → answerOf r ≡ answerOf r′ → r ≡ r′) (r r′ : R) where
+  pub sole-answer : {a : Answer A} → answerOf r ≡ a → answerOf r′ ≡ a → r ≡ r′
+  sole-answer d e = tells r r′ (d ∙ sym e)
+
+  pub sole : {S : Type 0} {rule : Answer (A × S)} {lent s t : S} → Did rule lent (answerOf r) s → Did rule lent (answerOf r′) t → (r ≡ r′) × (s ≡ t)
+  sole d e = let p = determined d e in (tells r r′ (p .0), p .1)
