@@ -5,7 +5,8 @@ use native.Mathlib.Omega.{arith}
 use mathlib.Core.Bool.{Bool, true, false}
 use mathlib.Core.Path.{_≡_, refl, sym, ap, _∙_}
 use mathlib.Core.List.{List, [], _∷_, _++_}
-use Rattle.refusal.specs.Table.{Rule, _when_, Answer, granted, refused, _orElse_, _otherwise_, passing, valueOf, leftOf, Did}
+use Rattle.refusal.specs.declared.Tested.{Tested}
+use Rattle.refusal.specs.Table.{Rule, _when_, Answer, granted, refused, _orElse_, _otherwise_, passing, testOf, valueOf, leftOf, Did}
 
 pub not-refused : {A : Type 0} {n : ℕ} {v : A} → granted v ≡ refused n → ⊥
 not-refused e = let z : _≡_ {A = ℕ} 0 1 = cc in omega arith
@@ -47,6 +48,35 @@ unfolding _orElse_
 parts [] more a = refl
 parts (n when true ∷ rest) more a = refl
 parts (n when false ∷ rest) more a = parts rest more a
+
+module _ {A : Type 0} (rules more : List Rule) (a : Answer A) where
+  pub stop : {m : ℕ} → refused m ≡ passing rules → (rules ++ more orElse a) ≡ refused m
+  stop e = parts rules more a ∙ halted rules _ e
+
+  pub go : granted tt ≡ passing rules → (rules ++ more orElse a) ≡ (more orElse a)
+  go e = parts rules more a ∙ past rules _ e
+
+-- tests in two parts that all passed
+pub both : (rules more : List Rule) → granted tt ≡ passing (rules ++ more) → (granted tt ≡ passing rules) × (granted tt ≡ passing more)
+unfolding _orElse_
+both [] more e = (refl, e)
+both (n when true ∷ rest) more e = (e, absurd (not-refused e))
+both (n when false ∷ rest) more e = both rest more e
+
+-- no test of a list holds, and that is what passing them all says
+abbrev pub NoneHolds : List Rule → Type 0
+NoneHolds [] = Unit {0}
+NoneHolds (n when t ∷ rest) = (t ≡ false) × NoneHolds rest
+
+pub none-holds : (rules : List Rule) → granted tt ≡ passing rules → NoneHolds rules
+unfolding _orElse_
+none-holds [] e = tt
+none-holds (n when true ∷ rest) e = absurd (not-refused e)
+none-holds (n when false ∷ rest) e = (refl, none-holds rest e)
+
+-- what the tests said, once the answer has been taken apart
+pub told : {a : Answer (Unit {0})} (r t : Tested) → testOf r ≡ a → r ≡ t → testOf t ≡ a
+told r t e p = sym (ap testOf p) ∙ e
 
 module _ {A S : Type 0} {rule : Answer (A × S)} {lent : S} where
   pub grant : {v : A} {s : S} → rule ≡ granted (v, s) → Did rule lent (granted v) s

@@ -10,7 +10,6 @@ use Rattle.refusal.specs.declared.Tested.the-variants.{Passed, Refused}
 
 infix 68 _when_
 infixr 20 _otherwise_ _orElse_
-
 -- a line of document 01's table: this number is given when this holds
 pub data Rule : Type 0 where
   _when_ : ℕ → Bool → Rule
