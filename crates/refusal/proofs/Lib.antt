@@ -1,0 +1,2 @@
+-- That the contract leaves no second result.
+pub mod Determined
