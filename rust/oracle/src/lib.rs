@@ -58,8 +58,10 @@ mod types;
 #[cfg(not(no_hecs))]
 mod word;
 
-#[cfg(all(test, not(no_hecs)))]
+#[cfg(all(test, not(no_hecs), debug_assertions))]
 mod findings;
+#[cfg(all(test, not(no_hecs), not(debug_assertions)))]
+mod silent;
 
 // ---- The originals, each in the module that its own paths ask for, with a ----
 // ---- child module that opens its private fields.                          ----
