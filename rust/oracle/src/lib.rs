@@ -21,6 +21,7 @@ compile_error!(
 mod tables;
 pub use tables::*;
 
+pub mod calls;
 pub mod sequences;
 
 #[cfg(no_hecs)]

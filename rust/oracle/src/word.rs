@@ -26,7 +26,7 @@ impl Word {
         self.left
     }
 
-    fn call(
+    fn run(
         &mut self,
         meanings: &[(&str, u32)],
         f: impl FnOnce(&AtomicBorrow) -> Said<()>,
@@ -41,25 +41,25 @@ impl Word {
     }
 
     pub fn borrow(&mut self) -> Said<()> {
-        self.call(&[("immutable borrow counter overflowed", 9)], |b| {
+        self.run(&[("immutable borrow counter overflowed", 9)], |b| {
             b.borrow().then_some(()).ok_or(No::Refused(7))
         })
     }
 
     pub fn borrow_mut(&mut self) -> Said<()> {
-        self.call(&[], |b| b.borrow_mut().then_some(()).ok_or(No::Refused(8)))
+        self.run(&[], |b| b.borrow_mut().then_some(()).ok_or(No::Refused(8)))
     }
 
     pub fn release(&mut self) -> Said<()> {
         let meanings = [("unbalanced release", 10), ("shared release of unique borrow", 11)];
-        self.call(&meanings, |b| {
+        self.run(&meanings, |b| {
             b.release();
             Ok(())
         })
     }
 
     pub fn release_mut(&mut self) -> Said<()> {
-        self.call(&[("unique release of shared borrow", 11)], |b| {
+        self.run(&[("unique release of shared borrow", 11)], |b| {
             b.release_mut();
             Ok(())
         })
