@@ -33,7 +33,7 @@ fn step_reserve_one(t: &mut Tables) -> u64 {
 
 /// 01 "Reserve n at once": the numbers of the pending part, in ascending
 /// position, and the range of new numbers. The cursor falls by n.
-fn step_reserve_many(t: &mut Tables, n: u64) -> (Vec<u32>, u64, u64) {
+fn step_reserve_many(t: &mut Tables, n: u64) -> (Vec<u32>, u32, u32) {
     let part = reserve_part(t, n).to_vec();
     let c = cursor(t);
     let n = i128::from(n);
@@ -43,7 +43,7 @@ fn step_reserve_many(t: &mut Tables, n: u64) -> (Vec<u32>, u64, u64) {
         (used(t) - c.min(0), used(t) - (c - n))
     };
     t.head.cursor = (c - n) as i64;
-    (part, start as u64, end as u64)
+    (part, start as u32, end as u32)
 }
 
 /// pending[max(c-n,0)..max(c,0)].
@@ -175,7 +175,7 @@ pub fn reserve_entities(t: &mut Tables, n: u64, out: &mut [u64]) -> Answer<()> {
         handles.push(pack(t.generations[number as usize], number));
     }
     for number in start..end {
-        handles.push(pack(1, number as u32));
+        handles.push(pack(1, number));
     }
     out[..handles.len()].copy_from_slice(&handles);
     Ok(())
@@ -187,8 +187,8 @@ pub fn reserve_entities(t: &mut Tables, n: u64, out: &mut [u64]) -> Answer<()> {
 pub struct ReserveReader {
     pub part: Vec<u32>,
     pub position: usize,
-    pub next: u64,
-    pub new_end: u64,
+    pub next: u32,
+    pub new_end: u32,
 }
 
 /// R23: making the reader refuses as reserve n does, without an output.
@@ -215,7 +215,7 @@ pub fn reserve_reader_step(reader: &mut ReserveReader, generations: &[u32]) -> A
         reader.position += 1;
         Ok(Some(pack(generations[number as usize], number)))
     } else if reader.next < reader.new_end {
-        let number = reader.next as u32;
+        let number = reader.next;
         reader.next += 1;
         Ok(Some(pack(1, number)))
     } else {
@@ -239,8 +239,8 @@ pub fn alloc(t: &mut Tables, place: Place) -> Answer<u64> {
 pub struct AllocManyState {
     pub position: u64,
     pub end: u64,
-    pub next: u64,
-    pub new_end: u64,
+    pub next: u32,
+    pub new_end: u32,
 }
 
 /// Makes n numbers live at successive indices of an archetype; one call with
@@ -257,22 +257,22 @@ pub fn alloc_many(t: &mut Tables, n: u64, archetype: u32, first: u32) -> Answer<
     let state = AllocManyState {
         position: t.head.pending - taken.len() as u64,
         end: t.head.pending,
-        next: t.head.used,
-        new_end: t.head.used + fresh,
+        next: t.head.used as u32,
+        new_end: (t.head.used + fresh) as u32,
     };
     // "the last min(n, pending) entries in ascending position get the first
     // rows, then new numbers"
     let mut numbers = taken;
     for number in state.next..state.new_end {
         t.generations[number as usize] = 1;
-        numbers.push(number as u32);
+        numbers.push(number);
     }
     for (k, &number) in numbers.iter().enumerate() {
         let index = (i128::from(first) + k as i128) as u32;
         t.set_place(number, Place { archetype, index });
     }
     t.head = Head {
-        used: state.new_end,
+        used: u64::from(state.new_end),
         pending: state.position,
         live: t.head.live + n,
         cursor: state.position as i64,
@@ -289,7 +289,7 @@ pub fn alloc_many_next(state: &mut AllocManyState, pending: &[u32]) -> Answer<Op
         state.position += 1;
         Ok(Some(number))
     } else if state.next < state.new_end {
-        let number = state.next as u32;
+        let number = state.next;
         state.next += 1;
         Ok(Some(number))
     } else {

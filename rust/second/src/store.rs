@@ -177,7 +177,7 @@ pub fn insert(t: &mut Tables, bits: u64, type_number: u32, bytes: &[u8]) -> Answ
     refuse_if(damaged_moved(t, &l, place), 1)?; // 01 Damage: moved number
 
     let new = change_archetype(t, &l, h.number, target);
-    let added = l.archetype(target).columns.iter().find(|c| c.type_number == type_number);
+    let added = l.archetype(target).column(type_number);
     let (start, size) = component(added.expect("the target has the type"), new.index);
     t.bytes[start..start + size].copy_from_slice(bytes);
     Ok(())
