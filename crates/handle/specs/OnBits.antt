@@ -1,11 +1,12 @@
 -- A call on a handle's bits: its first tests, then 5 for a zero generation, then what is said of the generation and the number.
 use Prim.{tt}
 use Prim.Native.Nat.{ℕ}
-use mathlib.Core.Path.{_≡_, sym, ap, _∙_}
+use mathlib.Core.Path.{_≡_, _∙_}
 use mathlib.Core.List.{List, [], _∷_, _++_}
+use borrow.Author.Tests.{ne-eqb, eqb-false}
 use lib.Dec.{eqb}
 use Rattle.refusal.specs.Table.{Rule, _when_, Answer, granted, refused, _orElse_, passing}
-use Rattle.refusal.specs.Laws.{stop, go}
+use Rattle.refusal.specs.Laws.{stop, go, passed-all, both, none-holds}
 use Rattle.refusal.specs.declared.Refusal.{Refusal}
 use Rattle.handle.specs.declared.Handle.{Handle}
 use Rattle.handle.specs.declared.Bits.{Bits}
@@ -32,3 +33,17 @@ module _ {A : Type 0} (first : List Rule) (bits : ℕ) (rest : ℕ → ℕ → A
       → onBits first bits rest ≡ rest (generationIn (h .0)) (numberIn (h .0))
   unfolding onBits _orElse_
   on-good r h e a p = let g = good bits r h a p in go first _ _ e ∙ rw (g .1, g .0)
+
+  -- the same of bits that nothing has taken apart yet
+  pub on-rest : granted tt ≡ passing first → (generationIn bits ≡ 0 → ⊥) → onBits first bits rest ≡ rest (generationIn bits) (numberIn bits)
+  unfolding onBits _orElse_
+  on-rest e ne = go first _ _ e ∙ simp (ne-eqb (generationIn bits) 0 ne)
+
+  -- what is granted is past all of these tests, and is what the rest grants
+  pub on-granted : {v : A} → granted v ≡ onBits first bits rest
+      → (granted tt ≡ passing first) × (generationIn bits ≡ 0 → ⊥) × (granted v ≡ rest (generationIn bits) (numberIn bits))
+  unfolding onBits
+  on-granted e =
+      let a = passed-all (first ++ 5 when eqb (generationIn bits) 0 ∷ []) (rest (generationIn bits) (numberIn bits)) e in
+      let b = both first (5 when eqb (generationIn bits) 0 ∷ []) (a .0) in
+      (b .0, eqb-false (generationIn bits) 0 (none-holds (5 when eqb (generationIn bits) 0 ∷ []) (b .1) .0), a .1)

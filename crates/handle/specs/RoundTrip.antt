@@ -61,6 +61,15 @@ pub bad : (b : ℕ) (r : Bits) (x : Refusal) → answerOf r ≡ fromBits b → r
 unfolding fromBits
 bad b r x a p = stopped _ _ _ _ (sym (ap answerOf p) ∙ a) .0
 
+-- and in each that takes the answer of `new` apart
+pub new-good : (n g : ℕ) (r : Bits) (h : Handle) → answerOf r ≡ newHandle n g → r ≡ Good h → (h .0 ≡ bitsOf g n) × (eqb g 0 ≡ false)
+unfolding newHandle
+new-good n g r h a p = let e : granted (h .0) ≡ newHandle n g = sym (ap answerOf p) ∙ a in (value-of _ _ e, passed _ _ _ _ e .0)
+
+pub new-bad : (n g : ℕ) (r : Bits) (x : Refusal) → answerOf r ≡ newHandle n g → r ≡ Refused x → eqb g 0 ≡ true
+unfolding newHandle
+new-bad n g r x a p = stopped _ _ _ _ (sym (ap answerOf p) ∙ a) .0
+
 -- no public function makes a handle of generation 0
 pub from-bits-nonzero : (b : ℕ) (h : Handle) → answerOf (Good h) ≡ fromBits b → generationIn (h .0) ≡ 0 → ⊥
 from-bits-nonzero b h a z = let g = good b (Good h) h a refl in eqb-false (generationIn b) 0 (g .1) (ap generationIn (sym (g .0)) ∙ z)

@@ -3,6 +3,9 @@ use refusal::Refusal;
 ghost use mathlib.Core.Path.{_≡_};
 ghost use Rattle.handle.specs.Bits.{MAX, bitsOf, numberIn, generationIn, answerOf, fromBits, newHandle};
 
+// The largest 32-bit number: the index of a number that has no row.
+pub const MAX: u32 = 0xffff_ffff;
+
 // The number of an entity.
 pub struct Number(pub u32);
 
@@ -28,7 +31,7 @@ impl Place {
     // The place of a number that has no row.
     pub const EMPTY: Place = Place {
         archetype: 0,
-        index: Row(0xffff_ffff),
+        index: Row(MAX),
     };
 }
 

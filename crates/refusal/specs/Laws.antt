@@ -17,6 +17,13 @@ unfolding _orElse_
 passed n true rest a e = absurd (not-refused e)
 passed n false rest a e = (refl, e)
 
+-- and past all of them it is what follows
+pub passed-all : {A : Type 0} {v : A} (rules : List Rule) (a : Answer A) → granted v ≡ (rules orElse a) → (granted tt ≡ passing rules) × (granted v ≡ a)
+unfolding _orElse_
+passed-all [] a e = (refl, e)
+passed-all (n when true ∷ rest) a e = absurd (not-refused e)
+passed-all (n when false ∷ rest) a e = passed-all rest a e
+
 -- the value that is granted is the one that the rule names
 pub value-of : {A : Type 0} {v : A} (rules : List Rule) (w : A) → granted v ≡ (rules otherwise w) → v ≡ w
 unfolding _orElse_
@@ -92,6 +99,15 @@ module _ {A S : Type 0} {rule : Answer (A × S)} {lent : S} where
   -- no second answer and no second state fit
   pub determined : {a b : Answer A} {s t : S} → Did rule lent a s → Did rule lent b t → (a ≡ b) × (s ≡ t)
   determined d e = (d .answer ∙ sym (e .answer), d .leaves ∙ sym (e .leaves))
+
+-- what a call did says what its rule is
+pub did-granted : {A S : Type 0} {lent s : S} {v : A} (rule : Answer (A × S)) → Did rule lent (granted v) s → rule ≡ granted (v, s)
+did-granted {v = v} (granted x) d = let e : v ≡ x .0 = cc in rw (e, d .leaves)
+did-granted (refused n) d = absurd (not-refused (d .answer))
+
+pub did-refused : {A S : Type 0} {lent s : S} {n : ℕ} (rule : Answer (A × S)) → Did rule lent (refused n) s → (rule ≡ refused n) × (s ≡ lent)
+did-refused (granted x) d = absurd (not-refused (sym (d .answer)))
+did-refused (refused m) d = (cc, d .leaves)
 
 -- no second result fits a promise, where the document's answer tells the results apart
 module _ {A R : Type 0} (answerOf : R → Answer A) (tells : (r r′ : R) → answerOf r ≡ answerOf r′ → r ≡ r′) (r r′ : R) where
