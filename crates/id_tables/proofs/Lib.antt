@@ -1,4 +1,10 @@
 -- Laws that the proofs of this crate share, and those that callers cite.
 mod Signed
 pub mod Entering
+pub mod Falling
+pub mod Meaning
+pub mod Damage
+pub mod Laws
+pub mod Placing
 mod Looking
+pub mod Determined

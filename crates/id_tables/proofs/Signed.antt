@@ -13,6 +13,7 @@ use mir.Syntax.{w64}
 use mir.Val.{Fits, SFits, toZ, ofZ}
 use mir.Facts.{toZ-ofZ, toZ-pos, fits-natAbs}
 use Rattle.id_tables.specs.Head.{freeOf, newOf}
+use Rattle.id_tables.proofs.Falling.{fall-held}
 
 abbrev Below : ℤ → Bool → Type 0
 Below x b = ltZ (toZ w64 (ofZ w64 x)) (toZ w64 0) ≡ b
@@ -53,7 +54,7 @@ new-some : (x : ℤ) → ltZ x (pos 0) ≡ true → 1 ≤ newOf x
 new-some (pos n) t = absurd (not-suc-le-zero (ltb-true n 0 t))
 new-some (negsuc n) t = omega arith
 
-new-small : (x : ℤ) → SFits w64 x → newOf x ≤ 2 ^ 63
+pub new-small : (x : ℤ) → SFits w64 x → newOf x ≤ 2 ^ 63
 new-small (pos n) f = omega arith
 new-small (negsuc n) f = omega (arith, f .sfits)
 
@@ -79,13 +80,13 @@ module _ (x : ℤ) (f : SFits w64 x) where
   pub new-fits : Below x true → Fits w64 (natAbs (toZ w64 ((2 ^ 64 - 1) - ofZ w64 x)) + 1)
   new-fits t = rw (flipped x f (negative x f t)) (record { fits = omega (arith, new-small x f) })
 
--- the cursor less a number below 2 ^ 32
-module _ (x : ℤ) (f : SFits w64 x) (n : ℕ) (h : n < 2 ^ 32) (k : SFits w64 (x -ℤ pos n)) where
+-- the cursor less a number below 2 ^ 32, where that is not too deep
+module _ (x : ℤ) (f : SFits w64 x) (n : ℕ) (h : n < 2 ^ 32) (k : newOf x + n ≤ 2 ^ 63) where
   up-is : toZ w64 n ≡ pos n
   up-is = toZ-pos w64 (omega arith)
 
   pub fall-fits : SFits w64 (toZ w64 (ofZ w64 x) -ℤ toZ w64 n)
-  fall-fits = rw (toZ-ofZ f, up-is) k
+  fall-fits = rw (toZ-ofZ f, up-is) (fall-held x n f h k)
 
   pub fall-is : toZ w64 (ofZ w64 (toZ w64 (ofZ w64 x) -ℤ toZ w64 n)) ≡ x -ℤ pos n
-  fall-is = rw (toZ-ofZ f, up-is, toZ-ofZ k)
+  fall-is = rw (toZ-ofZ f, up-is, toZ-ofZ (fall-held x n f h k))

@@ -1,8 +1,8 @@
 -- The head: used count, pending count, signed cursor, live count, and the head rule.
-use Prim.Native.Nat.{ℕ, suc, _+_, _-_}
-use mathlib.Core.Bool.{Bool, not, _&&_}
+use Prim.Native.Nat.{ℕ, suc, _+_, _-_, _^_}
+use mathlib.Core.Bool.{Bool, cond, not, _&&_}
 use mathlib.Core.List.{List, [], _∷_}
-use lib.Dec.{ltb, eqb}
+use lib.Dec.{ltb, leb, eqb}
 use lib.IntN.{ℤ, pos, negsuc, _-ℤ_}
 use Rattle.refusal.specs.Table.{Rule, _when_}
 use Rattle.id_tables.specs.declared.head.Head.{Head}
@@ -27,6 +27,10 @@ flushedHead used pending live = record { used = used; pending = pending; cursor 
 -- the head with its cursor fallen by n
 abbrev pub fallen : Head → ℕ → Head
 fallen h n = record { used = h .used; pending = h .pending; cursor = h .cursor -ℤ pos n; live = h .live }
+
+-- the same where 64 bits hold that cursor, and else the head as it is
+unfoldable pub fallenFit : Head → ℕ → Head
+fallenFit h n = cond (leb (newOf (h .cursor) + n) (2 ^ 63)) (fallen h n) h
 
 -- the head rule, over the capacity
 unfoldable pub headRules : Head → ℕ → List Rule

@@ -1,11 +1,10 @@
 -- The id tables as lent, what every call tests first, and what it may find in an entry.
-use Prim.Native.Nat.{ℕ, zero, suc, _+_, _-_, _<_, _≤_}
+use Prim.Native.Nat.{ℕ, _+_, _-_, _≤_}
 use mathlib.Core.Path.{_≡_}
 use mathlib.Core.Bool.{Bool, false, not, _&&_, _||_}
 use mathlib.Core.List.{List, [], _∷_, _++_}
 use lib.Dec.{ltb, leb, eqb}
 use lib.ListN.{length, getD, set}
-use lib.Seq.{slice}
 use Rattle.refusal.specs.Table.{Rule, _when_}
 use Rattle.handle.specs.Bits.{MAX, placeOf}
 use Rattle.handle.specs.declared.Place.{Place}
@@ -30,20 +29,24 @@ maxCapacity = 4096
 abbrev pub capacity : Ids → ℕ
 capacity s = length (s .generations)
 
--- the capacity's limit, and three tables as long as the capacity
-unfoldable pub sizeRules : ℕ → ℕ → ℕ → ℕ → List Rule
-sizeRules generations archetypes indices pending =
-    12 when ltb maxCapacity generations
-    ∷ 13 when not (eqb archetypes generations)
-    ∷ 13 when not (eqb indices generations)
-    ∷ 13 when not (eqb pending generations)
+-- the capacity's limit
+unfoldable pub capacityRules : ℕ → List Rule
+capacityRules capacity = 12 when ltb maxCapacity capacity ∷ []
+
+-- three tables as long as the capacity
+unfoldable pub lengthRules : ℕ → ℕ → ℕ → ℕ → List Rule
+lengthRules capacity archetypes indices pending =
+    13 when not (eqb archetypes capacity)
+    ∷ 13 when not (eqb indices capacity)
+    ∷ 13 when not (eqb pending capacity)
     ∷ []
 
 -- What every call tests first. `short`: it is lent an output that is too short.
 unfoldable pub entry : Ids → Bool → List Rule
 entry s short =
-    sizeRules (length (s .generations)) (length (s .archetypes)) (length (s .indices)) (length (s .pending))
-    ++ 13 when short ∷ headRules (s .head) (length (s .generations))
+    capacityRules (length (s .generations))
+    ++ (lengthRules (length (s .generations)) (length (s .archetypes)) (length (s .indices)) (length (s .pending))
+    ++ 13 when short ∷ headRules (s .head) (length (s .generations)))
 
 -- numbers neither live nor reserved
 abbrev pub room : Ids → ℕ

@@ -2,3 +2,4 @@
 pub mod Head
 pub mod Ids
 pub mod Lookup
+pub mod Runs

@@ -33,16 +33,17 @@ anyIs n (m ∷ ms) = eqb m n || anyIs n ms
 abbrev pub reservedOld : Ids → List ℕ
 reservedOld s = slice (freeOf (s .head .cursor)) (s .head .pending) (s .pending)
 
+-- one of them, at its generation
+unfoldable pub isReservedOld : Ids → ℕ → ℕ → Bool
+isReservedOld s generation n = ltb n (s .head .used) && (eqb (generationAt s n) generation && anyIs n (reservedOld s))
+
 -- a reserved new number, which has generation 1
 unfoldable pub reservedNew : Head → ℕ → ℕ → Bool
 reservedNew h generation n = eqb generation 1 && (leb (h .used) n && ltb n (h .used + newOf (h .cursor)))
 
--- Contains: a live handle; a recycled number that is reserved, at its generation; a reserved new number
+-- Contains: a live handle; a recycled number that is reserved; a reserved new number
 unfoldable pub isContained : Ids → ℕ → ℕ → Bool
-isContained s generation n =
-    live s generation n
-    || ((ltb n (s .head .used) && (eqb (generationAt s n) generation && anyIs n (reservedOld s)))
-    || reservedNew (s .head) generation n)
+isContained s generation n = live s generation n || (isReservedOld s generation n || reservedNew (s .head) generation n)
 
 unfoldable pub containing : Ids → ℕ → Answer Bool
 containing s bits = onBits (entry s false) bits (λ generation n. granted (isContained s generation n))
@@ -82,8 +83,11 @@ unfoldable pub counting : Ids → Answer ℕ
 counting s = entry s false otherwise s .head .live
 
 -- Clear: used, pending, cursor and live become 0; nothing else changes
+abbrev pub cleared : Ids → Ids
+cleared s = idsOf (flushedHead 0 0 0) (s .generations) (s .archetypes) (s .indices) (s .pending)
+
 unfoldable pub clearing : Ids → Answer (Unit {0} × Ids)
-clearing s = entry s false otherwise (tt, idsOf (flushedHead 0 0 0) (s .generations) (s .archetypes) (s .indices) (s .pending))
+clearing s = entry s false otherwise (tt, cleared s)
 
 -- the document's number and values of each answer
 abbrev pub containedOf : Contained → Answer Bool

@@ -5,30 +5,38 @@ use refusal::Tested;
 ghost use mathlib.Core.Path.{_≡_};
 ghost use Rattle.refusal.specs.Table.{testOf, passing};
 ghost use Rattle.id_tables.specs.Head.{headRules};
-ghost use Rattle.id_tables.specs.Ids.{idsOf, sizeRules, entry};
-ghost use lib.ListN.{length};
+ghost use Rattle.id_tables.specs.Ids.{idsOf, capacityRules, lengthRules, entry};
 
 const MAX_CAPACITY: usize = 4096;
 
-fn size_tested(generations: usize, archetypes: usize, indices: usize, pending: usize) -> Tested
-    ensures { λ r. ⌜ testOf r ≡ passing (sizeRules generations archetypes indices pending) ⌝ }
+// 12: the capacity's limit.
+pub fn capacity_tested(capacity: usize) -> Tested
+    ensures { λ r. ⌜ testOf r ≡ passing (capacityRules capacity) ⌝ }
 {
-    if MAX_CAPACITY < generations {
+    if MAX_CAPACITY < capacity {
         return Tested::Refused(Refusal::BadDeclaration);
     }
-    if archetypes != generations {
+    Tested::Passed
+}
+
+// 13: three tables as long as the capacity.
+pub fn lengths_tested(capacity: usize, archetypes: usize, indices: usize, pending: usize) -> Tested
+    ensures { λ r. ⌜ testOf r ≡ passing (lengthRules capacity archetypes indices pending) ⌝ }
+{
+    if archetypes != capacity {
         return Tested::Refused(Refusal::BadLength);
     }
-    if indices != generations {
+    if indices != capacity {
         return Tested::Refused(Refusal::BadLength);
     }
-    if pending != generations {
+    if pending != capacity {
         return Tested::Refused(Refusal::BadLength);
     }
     Tested::Passed
 }
 
-fn head_tested(head: Head, capacity: usize) -> Tested
+// 1: the head rule.
+pub fn head_tested(head: Head, capacity: usize) -> Tested
     ensures { λ r. ⌜ testOf r ≡ passing (headRules head capacity) ⌝ }
 {
     if capacity < head.used {
@@ -60,8 +68,12 @@ pub fn tested(
 ) -> Tested
     ensures { λ r. ⌜ testOf r ≡ passing (entry (idsOf head (now (generations .entry)) (now (archetypes .entry)) (now (indices .entry)) (now (pending .entry))) short) ⌝ }
 {
-    if let Tested::Refused(r) = size_tested(
-        generations.len(),
+    let capacity = generations.len();
+    if let Tested::Refused(r) = capacity_tested(capacity) {
+        return Tested::Refused(r);
+    }
+    if let Tested::Refused(r) = lengths_tested(
+        capacity,
         archetypes.len(),
         indices.len(),
         pending.len(),
@@ -71,5 +83,5 @@ pub fn tested(
     if short {
         return Tested::Refused(Refusal::BadLength);
     }
-    head_tested(head, generations.len())
+    head_tested(head, capacity)
 }

@@ -1,6 +1,9 @@
 // The head: the counts of the id tables, and the signed cursor, which only these functions look into.
 ghost use mathlib.Core.Path.{_≡_};
-ghost use Rattle.id_tables.specs.Head.{freeOf, newOf, flushed, flushedHead};
+ghost use Rattle.id_tables.specs.Head.{freeOf, newOf, flushed, flushedHead, fallenFit};
+
+// How far below 0 a cursor can be.
+const DEPTH: usize = 0x8000_0000_0000_0000;
 
 pub struct Head {
     pub used: usize,
@@ -54,5 +57,22 @@ impl Head {
             return false;
         }
         self.fresh() == 0
+    }
+
+    // The head with its cursor fallen by n. A cursor that would leave its 64 bits stays.
+    pub fn fallen(self, n: u32) -> Head
+        ensures { λ r. ⌜ r ≡ fallenFit self n ⌝ }
+    {
+        let c = self.cursor;
+        if DEPTH < self.fresh() + n as usize {
+            return self;
+        }
+        let d = n as i64;
+        Head {
+            used: self.used,
+            pending: self.pending,
+            cursor: c - d,
+            live: self.live,
+        }
     }
 }

@@ -1,19 +1,22 @@
-// The calls that look, or set without handing a number out.
+// What the calls that look or set answer, and two of them: contains and get.
 use crate::entry::tested;
 use crate::head::Head;
+use crate::tables::at;
 use crate::tables::is_live;
-use crate::tables::put_place;
 use handle::Bits;
 use handle::Handle;
+use handle::MAX;
 use handle::Place;
+use handle::Row;
 use refusal::Refusal;
 use refusal::Tested;
-ghost use Rattle.refusal.specs.Table.{Did, testOf};
+ghost use mathlib.Core.Path.{_≡_};
+ghost use Prim.Native.Nat.{_≤_};
+ghost use lib.ListN.{length};
+ghost use lib.Seq.{slice};
 ghost use Rattle.handle.specs.Bits.{generationIn, numberIn};
-ghost use Rattle.id_tables.specs.Ids.{idsOf};
-ghost use Rattle.id_tables.specs.Lookup.{placeSet, settingPlace};
-
-const MAX: u32 = 0xffff_ffff;
+ghost use Rattle.id_tables.specs.Ids.{idsOf, EntryOk};
+ghost use Rattle.id_tables.specs.Lookup.{anyIs, reservedNew, isContained, containing, placeGot, getting, containedOf, foundOf};
 
 pub enum Contained {
     Is(bool),
@@ -41,60 +44,121 @@ pub enum Done {
     Refused(Refusal),
 }
 
-fn place_set(
-    head: Head,
-    generations: &[u32],
-    archetypes: &mut [u32],
-    indices: &mut [u32],
-    pending: &[u32],
-    place: Place,
-    handle: Handle,
-) -> Tested
-    ensures { λ r. ⌜ Did (placeSet (idsOf head (now (generations .entry)) (now (archetypes .entry)) (now (indices .entry)) (now (pending .entry))) place (generationIn (handle .0)) (numberIn (handle .0))) (idsOf head (now (generations .entry)) (now (archetypes .entry)) (now (indices .entry)) (now (pending .entry))) (testOf r) (idsOf head (now (generations .entry)) (now (archetypes .exit)) (now (indices .exit)) (now (pending .entry))) ⌝ }
+// A number that is handed out and not yet in the tables.
+fn is_reserved_new(head: Head, generation: u32, number: usize) -> bool
+    ensures { λ r. ⌜ r ≡ reservedNew head generation number ⌝ }
 {
-    let row = place.index;
-    if MAX <= row.0 {
-        return Tested::Refused(Refusal::BadPlace);
+    if generation != 1 {
+        return false;
     }
-    let id = handle.id();
-    if !is_live(
-        head.used,
-        generations,
-        indices,
-        handle.generation(),
-        id.0 as usize,
-    ) {
-        return Tested::Refused(Refusal::NoSuchEntity);
+    if number < head.used {
+        return false;
     }
-    put_place(archetypes, indices, id, place);
-    Tested::Passed
+    number - head.used < head.fresh()
 }
 
-// hecs's `get_mut`: sets the place of a live entity.
-pub fn set_place(
+// pending[from..to] has the number.
+fn has(pending: &[u32], from: usize, to: usize, number: usize) -> bool
+    requires { ⌜ to ≤ length (now pending) ⌝ }
+    ensures { λ r. ⌜ r ≡ anyIs number (slice from to (now (pending .entry))) ⌝ }
+{
+    let mut i = from;
+    while i < to {
+        let here = pending[i] as usize;
+        if here == number {
+            return true;
+        }
+        i += 1;
+    }
+    false
+}
+
+fn is_contained(
     head: Head,
     generations: &[u32],
-    archetypes: &mut [u32],
-    indices: &mut [u32],
+    archetypes: &[u32],
+    indices: &[u32],
+    pending: &[u32],
+    handle: Handle,
+) -> bool
+    requires { ⌜ EntryOk (idsOf head (now generations) (now archetypes) (now indices) (now pending)) ⌝ }
+    ensures { λ r. ⌜ r ≡ isContained (idsOf head (now (generations .entry)) (now (archetypes .entry)) (now (indices .entry)) (now (pending .entry))) (generationIn (handle .0)) (numberIn (handle .0)) ⌝ }
+{
+    let generation = handle.generation();
+    let id = handle.id();
+    let number = id.0 as usize;
+    if head.used <= number {
+        return is_reserved_new(head, generation, number);
+    }
+    if at(generations, number) != generation {
+        return false;
+    }
+    if at(indices, number) != MAX {
+        return true;
+    }
+    has(pending, head.free(), head.pending, number)
+}
+
+pub fn contains(
+    head: Head,
+    generations: &[u32],
+    archetypes: &[u32],
+    indices: &[u32],
     pending: &[u32],
     bits: u64,
-    place: Place,
-) -> Tested
-    ensures { λ r. ⌜ Did (settingPlace (idsOf head (now (generations .entry)) (now (archetypes .entry)) (now (indices .entry)) (now (pending .entry))) bits place) (idsOf head (now (generations .entry)) (now (archetypes .entry)) (now (indices .entry)) (now (pending .entry))) (testOf r) (idsOf head (now (generations .entry)) (now (archetypes .exit)) (now (indices .exit)) (now (pending .entry))) ⌝ }
+) -> Contained
+    ensures { λ r. ⌜ containedOf r ≡ containing (idsOf head (now (generations .entry)) (now (archetypes .entry)) (now (indices .entry)) (now (pending .entry))) bits ⌝ }
 {
     if let Tested::Refused(r) = tested(head, generations, archetypes, indices, pending, false) {
-        return Tested::Refused(r);
+        return Contained::Refused(r);
     }
     let Bits::Good(handle) = Handle::from_bits(bits) else {
-        return Tested::Refused(Refusal::ZeroGeneration);
+        return Contained::Refused(Refusal::ZeroGeneration);
     };
-    place_set(
-        head,
-        generations,
-        archetypes,
-        indices,
-        pending,
-        place,
-        handle,
-    )
+    Contained::Is(is_contained(head, generations, archetypes, indices, pending, handle))
+}
+
+// What `get` answers of a handle, past the first tests.
+pub fn got(
+    head: Head,
+    generations: &[u32],
+    archetypes: &[u32],
+    indices: &[u32],
+    pending: &[u32],
+    handle: Handle,
+) -> Found
+    ensures { λ r. ⌜ foundOf r ≡ placeGot (idsOf head (now (generations .entry)) (now (archetypes .entry)) (now (indices .entry)) (now (pending .entry))) (generationIn (handle .0)) (numberIn (handle .0)) ⌝ }
+{
+    let generation = handle.generation();
+    let id = handle.id();
+    let number = id.0 as usize;
+    if is_live(head.used, generations, indices, generation, number) {
+        return Found::At(Place {
+            archetype: at(archetypes, number),
+            index: Row(at(indices, number)),
+        });
+    }
+    if is_reserved_new(head, generation, number) {
+        return Found::At(Place::EMPTY);
+    }
+    Found::Refused(Refusal::NoSuchEntity)
+}
+
+pub fn get(
+    head: Head,
+    generations: &[u32],
+    archetypes: &[u32],
+    indices: &[u32],
+    pending: &[u32],
+    bits: u64,
+) -> Found
+    ensures { λ r. ⌜ foundOf r ≡ getting (idsOf head (now (generations .entry)) (now (archetypes .entry)) (now (indices .entry)) (now (pending .entry))) bits ⌝ }
+{
+    if let Tested::Refused(r) = tested(head, generations, archetypes, indices, pending, false) {
+        return Found::Refused(r);
+    }
+    let Bits::Good(handle) = Handle::from_bits(bits) else {
+        return Found::Refused(Refusal::ZeroGeneration);
+    };
+    got(head, generations, archetypes, indices, pending, handle)
 }

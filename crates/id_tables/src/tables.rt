@@ -1,12 +1,11 @@
 // Entries of the id tables: read and written past the end too, so that a caller need not know how long a table is.
 use crate::head::Head;
+use handle::MAX;
 use handle::Number;
 use handle::Place;
 ghost use mathlib.Core.Path.{_≡_};
 ghost use lib.ListN.{getD, set};
 ghost use Rattle.id_tables.specs.Ids.{damagedIn, liveIn};
-
-const MAX: u32 = 0xffff_ffff;
 
 // What stands at a position, and 0 past the end.
 pub fn at(table: &[u32], position: usize) -> u32

@@ -1,5 +1,7 @@
 -- `id_tables::entry::head_tested` meets its contract: each return rewrites with the tests that led there.
 -- Assumes nothing.
+use Prim.Native.Nat.{_-_}
+use native.Mathlib.Omega.{arith}
 use borrow.Author.Needs.{needs}
 use borrow.Author.Tests.{lt-ltb, le-ltb, eq-eqb, ne-eqb}
 use Rattle.refusal.specs.Table.{_orElse_}
@@ -25,11 +27,11 @@ returns-4 c = simp (le-ltb _ _ (c .before .before .before .before .before .befor
 
 returns-5 : tie.Need-returns-5
 unfolding headRules _orElse_
-returns-5 c = simp (le-ltb _ _ (c .before .before .before .before .before .before .before .before .before .before .before .if1 .left), le-ltb _ _ (c .before .before .before .before .before .before .before .before .before .if2 .left), ← c .before .before .before .before .before .before .before .before .free .ensures, le-ltb _ _ (c .before .before .before .before .before .before .if3 .left), ← c .before .before .before .before .fresh .ensures, le-ltb _ _ (c .before .before .before .if4 .left), ne-eqb _ _ (c .if5 .taken))
+returns-5 c = simp (le-ltb _ _ (c .before .before .before .before .before .before .before .before .before .before .before .if1 .left), le-ltb _ _ (c .before .before .before .before .before .before .before .before .before .if2 .left), ← c .before .before .before .before .before .before .before .before .free .ensures, le-ltb _ _ (c .before .before .before .before .before .before .if3 .left), ← c .before .before .before .before .fresh .ensures, le-ltb _ _ (c .before .before .before .if4 .left), ne-eqb (c .before .before .before .before .before .before .before .before .before .before .before .before .before .args .head .live) (c .before .before .before .before .before .before .before .before .before .before .before .before .before .args .head .used - c .before .before .before .before .before .before .before .before .before .before .before .before .before .args .head .pending) (λ e. omega (arith, c .if5 .taken)))
 
 returns-6 : tie.Need-returns-6
 unfolding headRules _orElse_
-returns-6 c = simp (le-ltb _ _ (c .before .before .before .before .before .before .before .before .before .before .before .if1 .left), le-ltb _ _ (c .before .before .before .before .before .before .before .before .before .if2 .left), ← c .before .before .before .before .before .before .before .before .free .ensures, le-ltb _ _ (c .before .before .before .before .before .before .if3 .left), ← c .before .before .before .before .fresh .ensures, le-ltb _ _ (c .before .before .before .if4 .left), eq-eqb _ _ (c .if5 .left))
+returns-6 c = simp (le-ltb _ _ (c .before .before .before .before .before .before .before .before .before .before .before .if1 .left), le-ltb _ _ (c .before .before .before .before .before .before .before .before .before .if2 .left), ← c .before .before .before .before .before .before .before .before .free .ensures, le-ltb _ _ (c .before .before .before .before .before .before .if3 .left), ← c .before .before .before .before .fresh .ensures, le-ltb _ _ (c .before .before .before .if4 .left), eq-eqb (c .before .before .before .before .before .before .before .before .before .before .before .before .before .args .head .live) (c .before .before .before .before .before .before .before .before .before .before .before .before .before .args .head .used - c .before .before .before .before .before .before .before .before .before .before .before .before .before .args .head .pending) (omega (arith, c .if5 .left)))
 
 pub head-tested-spec : {M : Type 1} → statement M
 head-tested-spec =

@@ -1,0 +1,44 @@
+-- `id_batches::loops::place_old` meets its contract. The loop's invariant: of each table, what is left to set.
+-- Assumes nothing.
+use Prim.Native.Nat.{_≤_, _-_}
+use mathlib.Core.Path.{refl}
+use native.Mathlib.Omega.{arith}
+use borrow.Author.Needs.{needs}
+use lib.ListN.{length, replicate}
+use Rattle.id_tables.specs.Runs.{upFrom}
+use Rattle.id_batches.proofs.Setting.{Rest, rest-all, rest-none, rest-long, same-next, row-next}
+use Rattle.id_batches.proofs.loops.place_old.Statement.{statement}
+use Rattle.id_batches.proofs.loops.place_old.Tie as tie
+
+abbrev Inv-loop : tie.InvT-loop
+Inv-loop archetypes₀ indices₀ numbers archetype first i₀ archetypes indices i =
+    (i ≤ length numbers)
+    × (Rest archetypes₀ archetypes numbers (replicate (length numbers) archetype) i)
+    × (Rest indices₀ indices numbers (upFrom (first .0) (length numbers)) i)
+
+abbrev μ-loop : tie.MeasureT-loop
+μ-loop archetypes₀ indices₀ numbers archetype first i₀ archetypes indices i = length numbers - i
+
+loop-holds : tie.Need-loop-holds Inv-loop μ-loop
+loop-holds c = (search needs, rest-all _ _ _, rest-all _ _ _)
+
+loop-again : tie.Need-loop-again Inv-loop μ-loop
+loop-again c =
+    let h = c .before .before .before .before .before .before .before .before .before .loop-test .taken in
+    let inv = c .before .before .before .before .before .before .before .before .before .before .loop .inv in
+    let done = c .before .before .before .before .put-place .ensures in
+    (search needs, same-next _ _ (inv .1) h refl (done .0), row-next _ _ (inv .2) h refl (done .1))
+
+same-length : tie.Need-same-length Inv-loop μ-loop
+same-length c = rest-long (c .before .loop .inv .1)
+
+same-length-2 : tie.Need-same-length-2 Inv-loop μ-loop
+same-length-2 c = rest-long (c .before .loop .inv .2)
+
+returns : tie.Need-returns Inv-loop μ-loop
+returns c = (rest-none (c .before .loop .inv .1) (c .loop-test .left), rest-none (c .before .loop .inv .2) (c .loop-test .left))
+
+pub place-old-spec : {M : Type 1} → statement M
+place-old-spec =
+    tie.close
+    (tie.spec Inv-loop μ-loop loop-holds (λ c. omega arith) (λ c. omega arith) (λ c. omega arith) (λ c. omega arith) (λ c κs. search needs) (λ c. omega arith) (λ c. omega arith) loop-again same-length same-length-2 returns)

@@ -1,0 +1,48 @@
+// Runs of table entries: found, filled, numbered.
+ghost use mathlib.Core.Path.{_≡_};
+ghost use Prim.Native.Nat.{_+_, _-_, _^_, _<_, _≤_};
+ghost use lib.ListN.{length, take, replicate};
+ghost use lib.Seq.{sets};
+ghost use Rattle.id_tables.specs.Runs.{upFrom};
+ghost use Rattle.ids.specs.AllocAt.{positionOf};
+
+// Where a number stands first among the first entries; their count where it is not there.
+pub(crate) fn position_of(pending: &[u32], count: usize, number: u32) -> usize
+    requires { ⌜ count ≤ length (now pending) ⌝ }
+    ensures { λ r. ⌜ r ≡ positionOf number (take count (now (pending .entry))) ⌝ }
+{
+    let mut i = 0;
+    while i < count {
+        if pending[i] == number {
+            return i;
+        }
+        i += 1;
+    }
+    count
+}
+
+// One value for all the entries from..to.
+pub(crate) fn fill(table: &mut [u32], from: usize, to: usize, value: u32)
+    requires { ⌜ to ≤ length (now table) ⌝ }
+    ensures { λ _. ⌜ now (table .exit) ≡ sets (now (table .entry)) from (replicate (to - from) value) ⌝ }
+{
+    let mut i = from;
+    while i < to {
+        table[i] = value;
+        i += 1;
+    }
+}
+
+// The numbers from..to, ascending, after the first count entries.
+pub(crate) fn queue(pending: &mut [u32], count: usize, from: usize, to: usize)
+    requires { ⌜ (count + (to - from) ≤ length (now pending)) × (to < 2 ^ 32) ⌝ }
+    ensures { λ _. ⌜ now (pending .exit) ≡ sets (now (pending .entry)) count (upFrom from (to - from)) ⌝ }
+{
+    let mut position = count;
+    let mut number = from;
+    while number < to {
+        pending[position] = number as u32;
+        position += 1;
+        number += 1;
+    }
+}
