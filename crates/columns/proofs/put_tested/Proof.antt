@@ -1,0 +1,39 @@
+-- `columns::put_tested` meets its contract: the tables' tests, the value's, the counts' and the row's, in this order.
+-- Assumes nothing.
+use borrow.Author.Needs.{needs}
+use Rattle.column_entry.proofs.Chain.{said, stop, go}
+use Rattle.columns.specs.Calls.{putRules}
+use Rattle.columns.proofs.put_tested.Statement.{statement}
+use Rattle.columns.proofs.put_tested.Tie as tie
+
+returns : tie.Need-returns
+unfolding putRules
+returns c = stop _ _ (stop _ _ (stop _ _ (said (c .before .r .given .1) (c .before .before .before .tables-tested .ensures))))
+
+returns-2 : tie.Need-returns-2
+unfolding putRules
+returns-2 c =
+    stop _ _ (stop _ _ (go _ _ (said (c .before .before .before .before .enum-told .given .1) (c .before .before .before .before .before .before .tables-tested .ensures))
+    (said (c .before .r2 .given .1) (c .before .before .before .size-tested .ensures))))
+
+returns-3 : tie.Need-returns-3
+unfolding putRules
+returns-3 c =
+    stop _ _ (go _ _ (go _ _
+    (said (c .before .before .before .before .before .before .before .enum-told .given .1) (c .before .before .before .before .before .before .before .before .before .tables-tested .ensures))
+    (said (c .before .before .before .before .enum-told2 .given .1) (c .before .before .before .before .before .before .size-tested .ensures)))
+    (said (c .before .r3 .given .1) (c .before .before .before .counts-tested .ensures)))
+
+returns-4 : tie.Need-returns-4
+unfolding putRules
+returns-4 c =
+    go _ _ (go _ _ (go _ _
+    (said (c .before .before .before .before .before .before .before .enum-told .given .1) (c .before .before .before .before .before .before .before .before .before .tables-tested .ensures))
+    (said (c .before .before .before .before .enum-told2 .given .1) (c .before .before .before .before .before .before .size-tested .ensures)))
+    (said (c .before .enum-told3 .given .1) (c .before .before .before .counts-tested .ensures)))
+    (c .row-tested .ensures)
+
+pub put-tested-spec : {M : Type 1} → statement M
+put-tested-spec =
+    tie.close
+    (tie.spec (λ c κs. search needs) (λ c. search needs) returns (λ c. search needs) (λ c κs. search needs) (λ c. search needs) returns-2 (λ c. search needs) (λ c κs. search needs) (λ c. search needs) returns-3 (λ c. search needs) (λ c κs. search needs) returns-4)
