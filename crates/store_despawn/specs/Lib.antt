@@ -1,0 +1,2 @@
+-- The rule of despawn, and what its tests find.
+pub mod Despawn

@@ -1,0 +1,2 @@
+-- The rule of spawn.
+pub mod Spawn

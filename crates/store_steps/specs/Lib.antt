@@ -1,0 +1,2 @@
+-- What a row that leaves and a row that is taken do to the tables of places and rows.
+pub mod Seats

@@ -1,0 +1,58 @@
+// Steps of the store, over any tables: a row leaves its archetype, and the number that falls into the hole learns its place; a number takes a row. What has no place does nothing.
+use cells::Line;
+use handle::Number;
+use handle::Place;
+use handle::Row;
+use row_step::Block;
+use row_step::Moved;
+ghost use mathlib.Core.Path.{_≡_};
+ghost use Rattle.row_step.specs.Tables.{tablesOf};
+ghost use Rattle.store_steps.specs.Seats.{seatsOf, vacatedSeats, seatedRows};
+
+// Removes the row at a place. Whenever the last row falls into the hole, its number's place is written here.
+pub fn vacate(
+    archetypes: &mut [u32],
+    indices: &mut [u32],
+    numbers: &mut [u32],
+    counts: &mut [u32],
+    bytes: &mut [u8],
+    block: Block,
+    sizes: &[u32],
+    place: Place,
+)
+    ensures { λ _. ⌜ seatsOf (now (archetypes .exit)) (now (indices .exit)) (tablesOf (now (numbers .exit)) (now (counts .exit)) (now (bytes .exit))) ≡ vacatedSeats block (now (sizes .entry)) (seatsOf (now (archetypes .entry)) (now (indices .entry)) (tablesOf (now (numbers .entry)) (now (counts .entry)) (now (bytes .entry)))) (place .archetype) (place .index .0) ⌝ }
+{
+    let row = place.index;
+    let archetype = place.archetype as usize;
+    let moved = row_step::remove(numbers, counts, bytes, block, sizes, archetype, row);
+    if let Moved::Into(number) = moved {
+        id_tables::put_place(archetypes, indices, number, place);
+    }
+}
+
+// Puts a number into the first unused row of an archetype, and a run of bytes in column order into that row's components.
+pub fn seat(
+    numbers: &mut [u32],
+    counts: &mut [u32],
+    bytes: &mut [u8],
+    block: Block,
+    sizes: &[u32],
+    archetype: usize,
+    number: Number,
+    run: &[u8],
+)
+    ensures { λ _. ⌜ tablesOf (now (numbers .exit)) (now (counts .exit)) (now (bytes .exit)) ≡ seatedRows block (now (sizes .entry)) (tablesOf (now (numbers .entry)) (now (counts .entry)) (now (bytes .entry))) archetype (number .0) (now (run .entry)) ⌝ }
+{
+    let count = id_tables::at(counts, archetype);
+    if block.rows <= count {
+        return;
+    }
+    let line = Line {
+        start: block.base,
+        rows: block.rows,
+        row: count,
+    };
+    cells::transfer(run, Line::RUN, bytes, line, sizes);
+    row_step::set_number(numbers, block.first, Row(count), number);
+    id_tables::put(counts, archetype, count + 1);
+}

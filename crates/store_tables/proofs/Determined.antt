@@ -1,0 +1,31 @@
+-- The contracts determine the results: no second one fits. One instance a function, under its name.
+-- Assumes nothing.
+use Prim.Native.Nat.{ℕ}
+use mathlib.Core.Bool.{Bool}
+use mathlib.Core.Path.{_≡_, sym, ap, _∙_}
+use mathlib.Core.List.{List}
+use Rattle.refusal.specs.Table.{testOf, passing}
+use Rattle.refusal.specs.Laws.{sole-answer}
+use Rattle.refusal.specs.Distinct.{tested-tells}
+use Rattle.refusal.specs.declared.Tested.{Tested}
+use Rattle.decl.specs.Decl.{Decl}
+use Rattle.store_tables.specs.declared.Own.{Own}
+use Rattle.store_tables.specs.declared.Own.the-variants.{At, Damaged}
+use Rattle.store_tables.specs.Store.{Store, entry}
+use Rattle.store_tables.specs.Seen.{ownSeen, ownOf, movedSeen}
+
+own-tells : (r s : Own) → ownOf r ≡ ownOf s → r ≡ s
+own-tells (At a) (At b) e = ap At (cc)
+own-tells (At a) Damaged e = cc
+own-tells Damaged (At b) e = cc
+own-tells Damaged Damaged e = cc
+
+pub tested : (s : Store) (short : Bool) (r r′ : Tested) → testOf r ≡ passing (entry s short) → testOf r′ ≡ passing (entry s short) → r ≡ r′
+tested s short r r′ d e = sole-answer testOf tested-tells r r′ d e
+
+pub own-place : (d : Decl) (numbers counts : List ℕ) (a row n : ℕ) (r r′ : Own) → ownOf r ≡ ownSeen d numbers counts a row n → ownOf r′ ≡ ownSeen d numbers counts a row n → r ≡ r′
+own-place d numbers counts a row n r r′ p q = own-tells r r′ (p ∙ sym q)
+
+pub is-moved-damaged : (first used : ℕ) (archetypes indices numbers counts : List ℕ) (a row : ℕ) (r r′ : Bool)
+    → r ≡ movedSeen first used archetypes indices numbers counts a row → r′ ≡ movedSeen first used archetypes indices numbers counts a row → r ≡ r′
+is-moved-damaged first used archetypes indices numbers counts a row r r′ p q = p ∙ sym q

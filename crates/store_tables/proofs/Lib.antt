@@ -1,0 +1,7 @@
+-- Laws that the proofs of this crate share, and those that callers cite.
+mod Seeing
+pub mod Entering
+pub mod Places
+pub mod Vacating
+pub mod Parts
+pub mod Determined
