@@ -4,4 +4,5 @@ pub mod Loops
 pub mod Lines
 pub mod Rows
 pub mod Blocks
+pub mod Runs
 pub mod Determined

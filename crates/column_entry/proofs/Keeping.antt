@@ -11,7 +11,7 @@ use borrow.Author.Tests.{eq-eqb, ne-eqb, le-leb, lt-leb, eqb-true, leb-false, lt
 use lib.Dec.{eqb}
 use lib.ListN.{length, getD, List·getD-eq-default}
 use Rattle.refusal.specs.Table.{granted, refused, passing}
-use Rattle.refusal.specs.Laws.{passed}
+use Rattle.refusal.specs.Laws.{passed, both}
 use Rattle.decl.specs.Decl.{Decl, archetypes, rowsOf, firstRow}
 use Rattle.decl.specs.Rules.{declRules}
 use Rattle.decl.specs.Places.{spanOf}
@@ -22,7 +22,7 @@ use Rattle.decl.proofs.Lending.{span-in}
 use Rattle.row_step.specs.Tables.{Rows}
 use Rattle.column_entry.specs.Entry.{spanOr, spanIn, lengthRules, tableRules, isOver, countRules, entryRules, rowRules}
 use Rattle.column_entry.specs.Kept.{Kept, Tabled, Ready, There}
-use Rattle.column_entry.proofs.Chain.{applies, onward, through, both}
+use Rattle.refusal.specs.Chain.{applies, onward, through}
 
 pub kept : (d : Decl) → granted tt ≡ passing (declRules d) → Kept d
 kept d e = record { passes = e; declared = declared d e }

@@ -1,5 +1,5 @@
--- Tests one after another, what they give, the laws of the loops, and that the contracts leave no second result.
-pub mod Chain
+-- What the first tests give, the laws of the loops, and that the contracts leave no second result.
 pub mod Keeping
+pub mod Passing
 pub mod Loops
 pub mod Determined

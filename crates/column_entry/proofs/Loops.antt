@@ -14,7 +14,7 @@ use Rattle.refusal.specs.Table.{granted, refused, passing}
 use Rattle.decl.specs.Lists.{anyBelow}
 use Rattle.decl.proofs.Lists.{any-more, any-stop, any-done}
 use Rattle.column_entry.specs.Entry.{isOver, countRules, wrongSize}
-use Rattle.column_entry.proofs.Chain.{applies, onward, through}
+use Rattle.refusal.specs.Chain.{applies, onward, through}
 
 module _ (rows counts : List ℕ) (a n : ℕ) (count : n ≡ getD counts a 0) where
   pub count-over : a < length rows → getD rows a 0 < n → refused 1 ≡ passing (countRules rows counts)

@@ -9,14 +9,14 @@ use native.Mathlib.Omega.{arith}
 use borrow.Author.Tests.{lt-ltb, leb-false, eqb-true, not-false}
 use lib.ListN.{length, set, take, drop}
 use Rattle.refusal.specs.Table.{Answer, granted, refused, passing, Did}
-use Rattle.refusal.specs.Laws.{passed, past, halted, not-refused, value-of, grant, refuse}
+use Rattle.refusal.specs.Laws.{passed, passed-all, past, halted, not-refused, value-of, grant, refuse, both}
 use Rattle.decl.specs.Decl.{Decl, archetypes, rowsOf, firstRow, typesOf, sizesOf}
 use Rattle.decl.specs.Places.{rowWidth, baseOf}
 use Rattle.decl.specs.Lookup.{columnOf}
 use Rattle.decl.specs.declared.Column.{Column}
 use Rattle.decl.specs.declared.Column.the-variants.{At, Missing}
 use Rattle.decl.specs.declared.Span.{Span}
-use Rattle.decl.proofs.Keeping.{pass-both, types-length, sizes-length}
+use Rattle.decl.proofs.Keeping.{types-length, sizes-length}
 use Rattle.decl.proofs.Search.{Stands, column-stands}
 use Rattle.cells.specs.Cell.{written, partOf}
 use Rattle.cells.specs.Line.{rowBytes}
@@ -26,7 +26,6 @@ use Rattle.row_step.specs.Tables.{Rows, tablesOf, countOf, lineIn}
 use Rattle.row_step.proofs.Held.{appended-tables}
 use Rattle.column_entry.specs.Entry.{spanIn, tableRules, countRules, entryRules, rowRules}
 use Rattle.column_entry.specs.Kept.{Kept, Ready, There}
-use Rattle.column_entry.proofs.Chain.{both}
 use Rattle.column_entry.proofs.Keeping.{tabled, counted, ready, there, row-within}
 use Rattle.columns.specs.Calls.{blockIn, roomRules, allocateRules, allocatedIn, heldRules, removal, removedIn, widthRules, moveRules, movedOut, sizeRules, putRules, putAt, putIn, cellFor, gotIn, idsRules, idsIn, partFor}
 use Rattle.columns.proofs.Places.{line-cell, block-in, rows-in, first-told}
@@ -85,7 +84,7 @@ module _ (d : Decl) (w : Rows) (a : ℕ) where
   module _ (start count : ℕ) (e : granted (start, count) ≡ idsIn d w a) where
     ids-passed : granted tt ≡ passing (idsRules d w a)
     unfolding idsIn
-    ids-passed = pass-both (idsRules d w a) _ e .0
+    ids-passed = passed-all (idsRules d w a) _ e .0
 
     ids-value : _≡_ {A = ℕ × ℕ} (start, count) (firstRow d a, countOf w a)
     unfolding idsIn
@@ -198,7 +197,7 @@ module _ (d : Decl) (w : Rows) (a r : ℕ) where
     pub got-part : (start n : ℕ) (part : List ℕ) → granted (start, n) ≡ gotIn d w a r t → part ≡ partOf (w .bytes) start n → part ≡ partFor (gotIn d w a r t) (w .bytes)
     unfolding gotIn
     got-part start n part e f =
-        let p = pass-both (heldRules d w a r) _ e in
+        let p = passed-all (heldRules d w a r) _ e in
         let h = cell-fits (held-there (p .0)) (columnOf (typesOf d a) t) (column-stands (typesOf d a) t) (p .1) in
         f ∙ part-fits (w .bytes) start n h ∙ ap (λ (x : Answer (ℕ × ℕ)). partFor x (w .bytes)) e
 

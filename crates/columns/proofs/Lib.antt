@@ -3,6 +3,7 @@ pub mod Tests
 pub mod Places
 pub mod Steps
 pub mod Answers
+pub mod Cells
 pub mod Held
 pub mod Moving
 pub mod Determined

@@ -14,7 +14,7 @@ use Rattle.decl.specs.Places.{rowWidth}
 use Rattle.decl.specs.declared.Span.{Span}
 use Rattle.column_entry.specs.Entry.{spanIn, wrongSize}
 use Rattle.column_entry.specs.Kept.{Kept}
-use Rattle.column_entry.proofs.Chain.{applies, onward, through}
+use Rattle.refusal.specs.Chain.{applies, onward, through}
 use Rattle.column_entry.proofs.Keeping.{span-kept}
 use Rattle.columns.specs.Calls.{roomRules, widthRules, sizeRules}
 

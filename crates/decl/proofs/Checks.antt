@@ -14,7 +14,8 @@ use Rattle.decl.specs.Decl.{Decl, archetypes, typesOf, sizesOf}
 use Rattle.decl.specs.Rules.{shapeRules, sameTypes, sizesDiffer, columnRules, declRules}
 use Rattle.decl.specs.Steps.{clashing, falls, clashAt, Risen, Plain}
 use Rattle.decl.proofs.Lists.{false-true, or-left, or-right, any-false, pair-at, pair-false, above-false, ne-same, first-all}
-use Rattle.decl.proofs.Keeping.{allTwelve, testAt, decides, onward, through, columns-all, shaped}
+use Rattle.refusal.specs.Chain.{onward, through}
+use Rattle.decl.proofs.Keeping.{allTwelve, testAt, decides, columns-all, shaped}
 use Rattle.decl.proofs.Merge.{two-none}
 use Rattle.decl.proofs.Pairs.{parts-agree}
 use Rattle.decl.proofs.Placing.{column-in}
@@ -74,7 +75,7 @@ module _ (d : Decl) where
     unfolding columnRules
     all-passed p q h =
         rw shape-past
-        (onward _ _ p (onward _ _ (falls-rule ∙ q) (onward _ _ (clash-none h .0) (onward _ _ (clash-none h .1) through))))
+        (onward 12 _ p (onward 12 _ (falls-rule ∙ q) (onward 12 _ (clash-none h .0) (onward 12 _ (clash-none h .1) through))))
 
     -- enough to look at the columns, and what the quick look gives
     pub plain-lent : (length (d .widths) ≤ maxArchetypes) × (sum (d .widths) ≡ length (d .types)) × (length (d .sizes) ≡ length (d .types)) × (length (d .types) < 2 ^ 16)

@@ -12,7 +12,7 @@ use borrow.Author.Tests.{eqb-true, eqb-false, ltb-false, not-false}
 use lib.Dec.{eqb}
 use lib.ListN.{length, getD, take, drop, List·getD-eq-default}
 use Rattle.refusal.specs.Table.{Rule, _when_, Answer, granted, refused, _orElse_, passing}
-use Rattle.refusal.specs.Laws.{not-refused, passed, parts}
+use Rattle.refusal.specs.Laws.{not-refused, passed, both}
 use Rattle.decl.specs.Limits.{maxArchetypes, maxColumns, maxSize, maxRows}
 use Rattle.decl.specs.Lists.{sum, firstOf, rising, anyAbove, anyBelow, anyPair}
 use Rattle.decl.specs.Decl.{Decl, archetypes, widthOf, columns, firstColumn, typesOf, sizesOf, typeOf, sizeOf}
@@ -37,22 +37,6 @@ decides [] k a e = absurd (false-true e)
 decides (n when true ∷ rest) k a e = ap refused (sym (eqb-true n 12 (and-left (eqb n 12) (allTwelve rest) a)))
 decides (n when false ∷ rest) zero a e = absurd (false-true e)
 decides (n when false ∷ rest) (suc k) a e = decides rest k (and-right (eqb n 12) (allTwelve rest) a) e
-
--- a rule that does not apply is passed
-pub onward : {a : Answer (Unit {0})} (t : Bool) (rest : List Rule) → t ≡ false → a ≡ passing rest → a ≡ passing (12 when t ∷ rest)
-unfolding _orElse_
-onward t rest e h = rw e h
-
-pub through : granted tt ≡ passing []
-unfolding _orElse_
-through = refl
-
--- what is granted past two runs of rules is granted past each
-pub pass-both : {A : Type 0} {v : A} (rules : List Rule) (a : Answer A) → granted v ≡ (rules orElse a) → (granted tt ≡ passing rules) × (granted v ≡ a)
-unfolding _orElse_
-pass-both [] a e = (refl, e)
-pass-both (n when true ∷ rest) a e = absurd (not-refused e)
-pass-both (n when false ∷ rest) a e = pass-both rest a e
 
 -- all the columns there are
 pub columns-all : (d : Decl) → length (d .widths) ≡ archetypes d → columns d ≡ sum (d .widths)
@@ -157,11 +141,11 @@ module _ (d : Decl) where
   module _ (e : granted tt ≡ passing (declRules d)) where
     pub declared-shape : granted tt ≡ passing (shapeRules d)
     unfolding declRules
-    declared-shape = pass-both (shapeRules d) (passing (columnRules d)) (e ∙ parts (shapeRules d) (columnRules d) _) .0
+    declared-shape = both (shapeRules d) (columnRules d) e .0
 
     declared-columns : granted tt ≡ passing (columnRules d)
     unfolding declRules
-    declared-columns = pass-both (shapeRules d) (passing (columnRules d)) (e ∙ parts (shapeRules d) (columnRules d) _) .1
+    declared-columns = both (shapeRules d) (columnRules d) e .1
 
     pub declared : Declared d
     unfolding columnRules

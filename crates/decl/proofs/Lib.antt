@@ -12,3 +12,4 @@ pub mod Looking
 pub mod Lending
 pub mod Determined
 pub mod Spanning
+pub mod Starting

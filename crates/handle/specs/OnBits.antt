@@ -39,6 +39,11 @@ module _ {A : Type 0} (first : List Rule) (bits : ℕ) (rest : ℕ → ℕ → A
   unfolding onBits _orElse_
   on-rest e ne = go first _ _ e ∙ simp (ne-eqb (generationIn bits) 0 ne)
 
+  -- past the first tests: 5 for a zero generation, and then the rest
+  pub on-past : granted tt ≡ passing first → onBits first bits rest ≡ (5 when eqb (generationIn bits) 0 ∷ [] orElse rest (generationIn bits) (numberIn bits))
+  unfolding onBits
+  on-past e = go first _ _ e
+
   -- what is granted is past all of these tests, and is what the rest grants
   pub on-granted : {v : A} → granted v ≡ onBits first bits rest
       → (granted tt ≡ passing first) × (generationIn bits ≡ 0 → ⊥) × (granted v ≡ rest (generationIn bits) (numberIn bits))

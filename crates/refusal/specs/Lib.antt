@@ -3,3 +3,5 @@ pub mod Number
 pub mod Table
 pub mod Distinct
 pub mod Laws
+pub mod Chain
+pub mod Truth

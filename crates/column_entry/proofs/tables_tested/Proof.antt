@@ -2,21 +2,22 @@
 -- Assumes nothing.
 use borrow.Author.Needs.{needs}
 use Rattle.column_entry.specs.Entry.{tableRules}
-use Rattle.column_entry.proofs.Chain.{said, stop, go}
+use Rattle.refusal.specs.Laws.{told}
+use Rattle.refusal.specs.Chain.{stop, go}
 use Rattle.column_entry.proofs.Keeping.{kept}
 use Rattle.column_entry.proofs.tables_tested.Statement.{statement}
 use Rattle.column_entry.proofs.tables_tested.Tie as tie
 
 returns : tie.Need-returns
 unfolding tableRules
-returns c = stop _ _ (said (c .before .r .given .1) (c .before .before .before .tested .ensures))
+returns c = stop _ _ (told _ _ (c .before .before .before .tested .ensures) (c .before .r .given .1))
 
 lengths-tested-requires : tie.Need-lengths-tested-requires
-lengths-tested-requires c κs = kept _ (said (c .enum-told .given .1) (c .before .before .tested .ensures))
+lengths-tested-requires c κs = kept _ (told _ _ (c .before .before .tested .ensures) (c .enum-told .given .1))
 
 returns-2 : tie.Need-returns-2
 unfolding tableRules
-returns-2 c = go _ _ (said (c .before .enum-told .given .1) (c .before .before .before .tested .ensures)) (c .lengths-tested .ensures)
+returns-2 c = go _ _ (told _ _ (c .before .before .before .tested .ensures) (c .before .enum-told .given .1)) (c .lengths-tested .ensures)
 
 pub tables-tested-spec : {M : Type 1} → statement M
 tables-tested-spec =

@@ -1,20 +1,20 @@
 -- `columns::allocate` meets its contract: the tests decide, or the step does what the rule grants.
 -- Assumes nothing.
 use borrow.Author.Needs.{needs}
-use Rattle.column_entry.proofs.Chain.{said}
+use Rattle.refusal.specs.Laws.{told}
 use Rattle.columns.proofs.Answers.{allocate-asked, allocate-did, allocate-refused}
 use Rattle.columns.proofs.allocate.Statement.{statement}
 use Rattle.columns.proofs.allocate.Tie as tie
 
 returns : tie.Need-returns
-returns c = allocate-refused _ _ _ _ (said (c .before .r .given .1) (c .before .before .before .allocate-tested .ensures))
+returns c = allocate-refused _ _ _ _ (told _ _ (c .before .before .before .allocate-tested .ensures) (c .before .r .given .1))
 
 allocate-step-requires : tie.Need-allocate-step-requires
-allocate-step-requires c κs = allocate-asked _ _ _ (said (c .before .before .enum-told .given .1) (c .before .before .before .before .allocate-tested .ensures))
+allocate-step-requires c κs = allocate-asked _ _ _ (told _ _ (c .before .before .before .before .allocate-tested .ensures) (c .before .before .enum-told .given .1))
 
 returns-2 : tie.Need-returns-2
 returns-2 c =
-    allocate-did _ _ _ (said (c .before .before .before .before .before .before .before .enum-told .given .1) (c .before .before .before .before .before .before .before .before .before .allocate-tested .ensures)) _ _ _ _ (c .before .before .before .before .allocate-step .ensures .0)
+    allocate-did _ _ _ (told _ _ (c .before .before .before .before .before .before .before .before .before .allocate-tested .ensures) (c .before .before .before .before .before .before .before .enum-told .given .1)) _ _ _ _ (c .before .before .before .before .allocate-step .ensures .0)
     (c .before .before .before .before .allocate-step .ensures .1) (c .before .before .before .before .allocate-step .ensures .2)
 
 pub allocate-spec : {M : Type 1} → statement M

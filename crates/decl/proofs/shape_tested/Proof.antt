@@ -5,7 +5,8 @@ use mathlib.Core.Path.{refl, sym, ap, _∙_}
 use borrow.Author.Needs.{needs}
 use borrow.Author.Tests.{eq-eqb, ne-eqb, lt-ltb, le-ltb}
 use Rattle.decl.specs.Rules.{shapeRules}
-use Rattle.decl.proofs.Keeping.{allTwelve, testAt, decides, onward, through, columns-all}
+use Rattle.refusal.specs.Chain.{onward, through}
+use Rattle.decl.proofs.Keeping.{allTwelve, testAt, decides, columns-all}
 use Rattle.decl.proofs.shape_tested.Statement.{statement}
 use Rattle.decl.proofs.shape_tested.Tie as tie
 
@@ -49,14 +50,14 @@ returns-9 : tie.Need-returns-9
 unfolding shapeRules
 returns-9 c =
     let many = c .before .before .before .before .before .before .before .before .before .if3 .left in
-    onward _ _ (ne-eqb _ _ (c .before .before .before .before .before .before .before .before .before .before .before .if1 .left))
-    (onward _ _ (le-ltb _ _ (c .before .before .before .before .before .before .before .before .before .before .if2 .left))
-    (onward _ _ (ap not (eq-eqb _ _ many))
-    (onward _ _ (ap not (eq-eqb _ _ (c .before .before .before .before .before .before .before .if4 .left)))
-    (onward _ _ (sym (c .before .before .before .before .before .before .any-above .ensures) ∙ c .before .before .before .before .before .if5 .left)
-    (onward _ _ (sym (c .before .before .before .before .any-above2 .ensures) ∙ c .before .before .before .if6 .left)
-    (onward _ _ (ap not (eq-eqb _ _ (c .before .if7 .left ∙ c .before .before .total .ensures .0 ∙ sym (columns-all _ many))))
-    (onward _ _ (ap not (eq-eqb _ _ (c .if8 .left ∙ c .before .before .total .ensures .0 ∙ sym (columns-all _ many)))) through)))))))
+    onward 12 _ (ne-eqb _ _ (c .before .before .before .before .before .before .before .before .before .before .before .if1 .left))
+    (onward 12 _ (le-ltb _ _ (c .before .before .before .before .before .before .before .before .before .before .if2 .left))
+    (onward 12 _ (ap not (eq-eqb _ _ many))
+    (onward 12 _ (ap not (eq-eqb _ _ (c .before .before .before .before .before .before .before .if4 .left)))
+    (onward 12 _ (sym (c .before .before .before .before .before .before .any-above .ensures) ∙ c .before .before .before .before .before .if5 .left)
+    (onward 12 _ (sym (c .before .before .before .before .any-above2 .ensures) ∙ c .before .before .before .if6 .left)
+    (onward 12 _ (ap not (eq-eqb _ _ (c .before .if7 .left ∙ c .before .before .total .ensures .0 ∙ sym (columns-all _ many))))
+    (onward 12 _ (ap not (eq-eqb _ _ (c .if8 .left ∙ c .before .before .total .ensures .0 ∙ sym (columns-all _ many)))) through)))))))
 
 pub shape-tested-spec : {M : Type 1} → statement M
 shape-tested-spec =
