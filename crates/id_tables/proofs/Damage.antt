@@ -9,7 +9,8 @@ use native.Mathlib.Numerals.{add-one}
 use lib.ListN.{length, getD, drop, drop-of-length-le}
 use lib.Seq.{drop-cons}
 use Rattle.id_tables.specs.Ids.{damagedIn, anyDamagedIn}
-use Rattle.id_tables.proofs.Meaning.{Undamaged, undamaged, neither}
+use Rattle.refusal.specs.Truth.{neither}
+use Rattle.id_tables.proofs.Meaning.{Undamaged, undamaged}
 
 module _ (used : ℕ) (generations indices : List ℕ) where
   -- a scan: what is left of the numbers decides

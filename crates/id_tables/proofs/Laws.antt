@@ -12,6 +12,7 @@ use lib.Dec.{ltb, leb, eqb}
 use lib.ListN.{length, getD}
 use borrow.Author.Tests.{ltb-true, leb-true, leb-false, eqb-true, lt-ltb, le-ltb, le-leb, lt-leb, eq-eqb, ne-eqb}
 use Rattle.refusal.specs.Table.{Rule, Answer, granted, refused, _when_, _orElse_, passing}
+use Rattle.refusal.specs.Truth.{and-parts}
 use Rattle.refusal.specs.Laws.{passed-all, past, go, both, none-holds, value-of, not-refused}
 use Rattle.handle.specs.Bits.{MAX, bitsOf, placeOf, generationIn, numberIn}
 use Rattle.handle.specs.OnBits.{onBits, on-rest, on-granted}
@@ -20,10 +21,6 @@ use Rattle.id_tables.specs.declared.head.Head.{Head}
 use Rattle.id_tables.specs.Head.{newOf}
 use Rattle.id_tables.specs.Ids.{Ids, entry, live, liveIn, generationAt, indexAt, placeAt}
 use Rattle.id_tables.specs.Lookup.{anyIs, reservedOld, isReservedOld, reservedNew, isContained, containing, placeGot, getting, resolving, counting, clearing, cleared}
-
-pub and-parts : (a b : Bool) → (a && b) ≡ true → (a ≡ true) × (b ≡ true)
-and-parts true b e = (refl, e)
-and-parts false b e = (e, cc)
 
 or-parts : (a b : Bool) → (a || b) ≡ true → (a ≡ true) ⊎ (b ≡ true)
 or-parts true b e = inl refl

@@ -3,8 +3,10 @@ mod Signed
 pub mod Entering
 pub mod Falling
 pub mod Meaning
+pub mod Passing
 pub mod Damage
 pub mod Laws
 pub mod Placing
 mod Looking
 pub mod Determined
+pub mod Refusing

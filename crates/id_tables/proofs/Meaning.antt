@@ -16,11 +16,8 @@ use Rattle.id_tables.specs.declared.head.Head.{Head}
 use Rattle.id_tables.specs.Head.{freeOf, newOf, flushed, flushedHead, headRules}
 use Rattle.id_tables.specs.Ids.{Ids, capacityRules, lengthRules, entry, damagedIn, live, liveIn, EntryOk}
 use Rattle.id_tables.specs.Lookup.{anyIs, isReservedOld, reservedNew, isContained}
-use Rattle.id_tables.proofs.Laws.{and-parts, new-means}
-
-pub neither : (a b : Bool) → (a || b) ≡ false → (a ≡ false) × (b ≡ false)
-neither true b e = (e, cc)
-neither false b e = (refl, e)
+use Rattle.refusal.specs.Truth.{and-parts, neither}
+use Rattle.id_tables.proofs.Laws.{new-means}
 
 -- Flushed: every pending entry is free, and no new number is reserved
 module _ (h : Head) (e : flushed h ≡ true) where

@@ -15,7 +15,8 @@ use Rattle.handle.specs.Bits.{MAX, generationIn, numberIn}
 use Rattle.handle.specs.declared.Place.{Place}
 use Rattle.id_tables.specs.Ids.{Ids, entry, live, liveIn, generationAt, indexAt, placeAt, placed, EntryOk}
 use Rattle.id_tables.specs.Lookup.{isReservedOld, isContained, placeGot, placeSet, settingPlace}
-use Rattle.id_tables.proofs.Laws.{and-parts, Entered, at-rest, entered, got-live}
+use Rattle.refusal.specs.Truth.{and-parts}
+use Rattle.id_tables.proofs.Laws.{Entered, at-rest, entered, got-live}
 
 -- past the first tests, and what is granted
 module _ (s : Ids) (bits : ℕ) (place : Place) where

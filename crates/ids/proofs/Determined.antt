@@ -1,7 +1,8 @@
 -- The contracts determine the result, the head in it and the tables that are left: no second result fits. One instance a function, under its name.
 -- Assumes nothing.
 use Prim.Native.Nat.{ℕ}
-use mathlib.Core.Path.{_≡_, ap}
+use mathlib.Core.Path.{_≡_, sym, ap, _∙_}
+use mathlib.Core.Bool.{Bool}
 use mathlib.Core.List.{List}
 use Rattle.refusal.specs.Table.{Answer, Did}
 use Rattle.refusal.specs.Laws.{determined}
@@ -19,7 +20,7 @@ use Rattle.ids.specs.declared.Chosen.the-variants as chosen
 use Rattle.ids.specs.Answers.{givenOf, givenHead, freedOf, freedHead, chosenOf, chosenHead}
 use Rattle.ids.specs.Reserve.{reserving}
 use Rattle.ids.specs.Alloc.{allocating}
-use Rattle.ids.specs.AllocAt.{allocatingAt}
+use Rattle.ids.specs.AllocAt.{isPending, allocatingAt}
 use Rattle.ids.specs.Free.{freeing}
 
 -- an answer of the document, with the head that it leaves, is that of one result
@@ -69,3 +70,6 @@ alloc-at s bits place = one chosenOf chosenHead (allocatingAt s bits place) s ch
 
 pub free : (s : Ids) (bits : ℕ) → One freedOf freedHead (freeing s bits) s
 free s bits = one freedOf freedHead (freeing s bits) s freed-tells
+
+pub is-pending : (s : Ids) (n : ℕ) (r r′ : Bool) → r ≡ isPending s n → r′ ≡ isPending s n → r ≡ r′
+is-pending s n r r′ p q = p ∙ sym q

@@ -8,5 +8,6 @@ pub mod Laws
 pub mod Leaving
 pub mod Listing
 pub mod Passing
+pub mod Refusing
 mod Reserving
 mod Stepping

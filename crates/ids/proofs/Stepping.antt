@@ -1,15 +1,18 @@
 -- One turn of each loop: a scan for a position, a fill, a run of numbers.
 -- Assumes nothing.
 use Prim.Native.Nat.{ℕ, suc, _+_, _-_, _<_, _≤_}
-use mathlib.Core.Path.{_≡_}
+use mathlib.Core.Path.{_≡_, sym}
+use mathlib.Core.Bool.{true}
 use mathlib.Core.List.{List}
 use native.Mathlib.Omega.{arith}
 use native.Mathlib.Numerals.{add-one}
-use borrow.Author.Tests.{eq-eqb, ne-eqb}
+use borrow.Author.Tests.{lt-ltb, eq-eqb, ne-eqb}
+use lib.Dec.{ltb}
 use lib.ListN.{length, getD, take, set, replicate, length-take, drop-of-length-le}
 use lib.Seq.{sets, slice, slice-cons}
 use Rattle.id_tables.specs.Runs.{upFrom, up-from-none, up-from-cons}
 use Rattle.ids.specs.AllocAt.{positionOf}
+use Rattle.ids.proofs.Listing.{position-in}
 
 -- the first position of n in p[i..to], counted from i
 module _ (n : ℕ) (p : List ℕ) (i to : ℕ) where
@@ -24,6 +27,12 @@ module _ (n : ℕ) (p : List ℕ) (i to : ℕ) where
   pub found-nowhere : to ≤ i → positionOf n (slice i to p) ≡ 0
   unfolding positionOf
   found-nowhere h = let k : length (take to p) ≤ i = rw length-take (omega arith) in rw (drop-of-length-le (take to p) k)
+
+-- a list shorter than its count ends before it
+pub short-list : (n : ℕ) (p : List ℕ) (count : ℕ) → length p < count → true ≡ ltb (positionOf n (take count p)) count
+short-list n p count h =
+    let k : length (take count p) ≤ length p = rw length-take (omega arith) in
+    sym (lt-ltb (positionOf n (take count p)) count (omega (arith, position-in n (take count p))))
 
 -- one value in the entries i..to
 module _ (l : List ℕ) (i to v : ℕ) where

@@ -22,6 +22,7 @@ ghost use Rattle.handle.specs.Bits.{bitsOf, placeOf};
 ghost use Rattle.ids.specs.Answers.{giving};
 pub use give_back::free;
 pub use reserve::reserve_entity;
+pub use runs::is_pending;
 pub use take_chosen::alloc_at;
 pub use take_next::alloc;
 

@@ -1,6 +1,9 @@
 // Runs of table entries: found, filled, numbered.
+use handle::Number;
+use id_tables::Head;
 ghost use mathlib.Core.Path.{_≡_};
 ghost use Prim.Native.Nat.{_+_, _-_, _^_, _<_, _≤_};
+ghost use lib.Dec.{ltb};
 ghost use lib.ListN.{length, take, replicate};
 ghost use lib.Seq.{sets};
 ghost use Rattle.id_tables.specs.Runs.{upFrom};
@@ -19,6 +22,17 @@ pub(crate) fn position_of(pending: &[u32], count: usize, number: u32) -> usize
         i += 1;
     }
     count
+}
+
+// Whether a number stands in the pending list, as the rule of alloc at has it: of a list shorter than its count, any number.
+pub fn is_pending(head: Head, pending: &[u32], number: Number) -> bool
+    ensures { λ r. ⌜ r ≡ ltb (positionOf (number .0) (take (head .pending) (now (pending .entry)))) (head .pending) ⌝ }
+{
+    let count = head.pending;
+    if pending.len() < count {
+        return true;
+    }
+    position_of(pending, count, number.0) < count
 }
 
 // One value for all the entries from..to.

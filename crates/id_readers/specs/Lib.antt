@@ -1,0 +1,3 @@
+-- The reader of a reservation, and the answers of both walks.
+pub mod Reader
+pub mod State
