@@ -2,4 +2,6 @@
 mod Testing
 mod Ending
 pub mod Laws
+pub mod Granting
+pub mod Refusing
 pub mod Determined

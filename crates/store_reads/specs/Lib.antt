@@ -5,3 +5,4 @@ pub mod Read
 pub mod Write
 pub mod Words
 pub mod Lookup
+pub mod Lines

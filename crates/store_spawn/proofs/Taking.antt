@@ -29,10 +29,11 @@ use Rattle.column_entry.proofs.Keeping.{span-kept}
 use Rattle.store_steps.specs.Seats.{seatedRows}
 use Rattle.store_tables.specs.Store.{Store, storeOf, entry}
 use Rattle.store_tables.specs.Rows.{blockAt, seated}
+use Rattle.store_tables.specs.Run.{runWrong}
 use Rattle.store_tables.specs.Kept.{Entered}
 use Rattle.store_tables.proofs.Entering.{entered}
 use Rattle.store_tables.proofs.Parts.{part-small, part-in, part-is, block-is}
-use Rattle.store_spawn.specs.Spawn.{runWrong, nextNumber, nextIds, spawnRules, Spawnable, spawned, spawning}
+use Rattle.store_spawn.specs.Spawn.{nextNumber, nextIds, spawnRules, Spawnable, spawned, spawning}
 use Rattle.store_spawn.proofs.Laws.{SpawnOk, spawn-ok, can-alloc}
 
 same-value : (x y : ℕ) → granted x ≡ granted y → x ≡ y

@@ -1,46 +1,24 @@
 -- The ways through the tests of a spawn, over plain values.
 -- Assumes nothing.
 use Prim.{tt}
-use Prim.Native.Nat.{ℕ, _-_, _<_, _≤_}
+use Prim.Native.Nat.{ℕ, _<_, _≤_}
 use native.Mathlib.Omega.{arith}
 use native.Mathlib.Nat.{pos-of-ne-zero}
-use mathlib.Core.Path.{_≡_, refl, sym, ap, _∙_}
-use mathlib.Core.Bool.{Bool, true, false, not, _&&_}
+use mathlib.Core.Path.{_≡_, refl, sym, _∙_}
+use mathlib.Core.Bool.{Bool, true, false, _&&_}
 use mathlib.Core.List.{List}
-use lib.Dec.{ltb, leb, eqb}
-use lib.ListN.{length, getD}
-use borrow.Author.Tests.{lt-ltb, le-ltb, le-leb, lt-leb, ltb-true, leb-true, leb-false, ne-eqb}
+use lib.Dec.{ltb, leb}
+use borrow.Author.Tests.{lt-ltb, le-ltb, le-leb, lt-leb, leb-true, leb-false}
 use Rattle.refusal.specs.Table.{granted, refused, _orElse_, passing}
 use Rattle.borrow_word.specs.Slice.{anyHeld}
 use Rattle.id_tables.specs.declared.head.Head.{Head}
 use Rattle.id_tables.specs.Head.{flushed, roomIn}
 use Rattle.id_tables.specs.Ids.{room, damagedIn}
 use Rattle.id_tables.proofs.Meaning.{flushed-free, flushed-new}
-use Rattle.decl.specs.Decl.{Decl, archetypes, rowsOf}
-use Rattle.decl.specs.Places.{rowWidth}
-use Rattle.decl.specs.Rules.{declRules}
-use Rattle.decl.specs.declared.Span.{Span}
+use Rattle.decl.specs.Decl.{archetypes, rowsOf}
 use Rattle.row_step.specs.Tables.{countOf}
-use Rattle.column_entry.specs.Entry.{spanIn}
-use Rattle.column_entry.proofs.Keeping.{kept, span-kept}
-use Rattle.store_tables.specs.Store.{Store, entry}
-use Rattle.store_tables.proofs.Parts.{same-entry}
-use Rattle.store_spawn.specs.Spawn.{runWrong, nextDamaged, spawnRules}
-
--- the run's length
-module _ (d : Decl) (a : ℕ) (run : List ℕ) (span : Span) (p : span ≡ spanIn d a) where
-  width-seen : granted tt ≡ passing (declRules d) → (ltb a (archetypes d) && not (eqb (length run) (span .bytes))) ≡ runWrong d a run
-  unfolding runWrong
-  width-seen e = by (ltb a (archetypes d)) refl
-    where
-      by : (b : Bool) → ltb a (archetypes d) ≡ b → (ltb a (archetypes d) && not (eqb (length run) (span .bytes))) ≡ runWrong d a run
-      by true t = rw (p, span-kept d a (kept d e) (omega (arith, ltb-true a (archetypes d) t)))
-      by false t = rw t
-
--- the first tests, with the length as the code has seen it
-pub first-tests : (s : Store) (a : ℕ) (run : List ℕ) (span : Span) (short : Bool) → span ≡ spanIn (s .decl) a
-    → short ≡ (ltb a (archetypes (s .decl)) && not (eqb (length run) (span .bytes))) → passing (entry s short) ≡ passing (entry s (runWrong (s .decl) a run))
-first-tests s a run span short p q = same-entry s short (runWrong (s .decl) a run) (λ e. q ∙ width-seen (s .decl) a run span p e)
+use Rattle.store_tables.specs.Store.{Store}
+use Rattle.store_spawn.specs.Spawn.{nextDamaged, spawnRules}
 
 -- whether a number is left
 module _ (h : Head) (c : ℕ) (f : flushed h ≡ true) where

@@ -4,23 +4,18 @@ use Prim.Native.Nat.{ℕ}
 use mathlib.Core.Path.{_≡_}
 use mathlib.Core.Bool.{Bool, cond, not, _&&_}
 use mathlib.Core.List.{List, [], _∷_, _++_}
-use lib.Dec.{ltb, leb, eqb}
-use lib.ListN.{length}
+use lib.Dec.{ltb, leb}
 use Rattle.refusal.specs.Table.{Rule, _when_, Answer, granted, _orElse_, passing}
 use Rattle.handle.specs.Bits.{placeOf}
 use Rattle.borrow_word.specs.Slice.{anyHeld}
 use Rattle.id_tables.specs.Head.{flushed}
 use Rattle.id_tables.specs.Ids.{Ids, room, damaged}
 use Rattle.ids.specs.Alloc.{hasPending, lastPending, allocatedLast, allocatedNew}
-use Rattle.decl.specs.Decl.{Decl, archetypes, rowsOf}
-use Rattle.decl.specs.Places.{rowWidth}
+use Rattle.decl.specs.Decl.{archetypes, rowsOf}
 use Rattle.row_step.specs.Tables.{countOf}
 use Rattle.store_tables.specs.Store.{Store, withIds, entry}
 use Rattle.store_tables.specs.Rows.{seated}
-
--- 13 for the components' bytes: the archetype is declared, and the run is not of its row's width
-unfoldable pub runWrong : Decl → ℕ → List ℕ → Bool
-runWrong d a run = ltb a (archetypes d) && not (eqb (length run) (rowWidth d a))
+use Rattle.store_tables.specs.Run.{runWrong}
 
 -- the next number, and the ids with it at the first unused row
 abbrev pub nextNumber : Ids → ℕ

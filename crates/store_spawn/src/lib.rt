@@ -10,10 +10,11 @@ use ids::Given;
 use refusal::Refusal;
 use refusal::Tested;
 use row_step::Block;
-ghost use mathlib.Core.Bool.{true, not, _&&_};
+use store_tables::is_run_wrong;
+ghost use mathlib.Core.Bool.{true};
 ghost use mathlib.Core.Path.{_≡_};
 ghost use Prim.Native.Nat.{_≤_};
-ghost use lib.Dec.{ltb, eqb};
+ghost use lib.Dec.{ltb};
 ghost use Rattle.refusal.specs.Table.{Did, testOf, passing};
 ghost use Rattle.id_tables.specs.Head.{flushed, roomIn};
 ghost use Rattle.id_tables.specs.Ids.{idsOf};
@@ -24,16 +25,6 @@ ghost use Rattle.row_step.specs.Tables.{tablesOf};
 ghost use Rattle.store_tables.specs.Store.{storeOf};
 ghost use Rattle.store_tables.specs.Kept.{Entered};
 ghost use Rattle.store_spawn.specs.Spawn.{nextDamaged, spawnRules, Spawnable, spawned, spawning};
-
-// Whether a declared archetype is given a run of another length than its row's width.
-fn is_run_wrong(declared: usize, archetype: usize, run: usize, width: usize) -> bool
-    ensures { λ r. ⌜ r ≡ (ltb archetype declared && not (eqb run width)) ⌝ }
-{
-    if declared <= archetype {
-        return false;
-    }
-    run != width
-}
 
 // Whether no number is left, where nothing is reserved.
 fn is_full(head: Head, capacity: usize) -> bool

@@ -1,9 +1,10 @@
 -- The contracts determine the results: no second one fits. One instance a function, under its name.
 -- Assumes nothing.
 use Prim.Native.Nat.{ℕ}
-use mathlib.Core.Bool.{Bool}
+use mathlib.Core.Bool.{Bool, not, _&&_}
 use mathlib.Core.Path.{_≡_, sym, ap, _∙_}
 use mathlib.Core.List.{List}
+use lib.Dec.{ltb, eqb}
 use Rattle.refusal.specs.Table.{testOf, passing}
 use Rattle.refusal.specs.Laws.{sole-answer}
 use Rattle.refusal.specs.Distinct.{tested-tells}
@@ -29,3 +30,6 @@ own-place d numbers counts a row n r r′ p q = own-tells r r′ (p ∙ sym q)
 pub is-moved-damaged : (first used : ℕ) (archetypes indices numbers counts : List ℕ) (a row : ℕ) (r r′ : Bool)
     → r ≡ movedSeen first used archetypes indices numbers counts a row → r′ ≡ movedSeen first used archetypes indices numbers counts a row → r ≡ r′
 is-moved-damaged first used archetypes indices numbers counts a row r r′ p q = p ∙ sym q
+
+pub is-run-wrong : (declared a run width : ℕ) (r r′ : Bool) → r ≡ (ltb a declared && not (eqb run width)) → r′ ≡ (ltb a declared && not (eqb run width)) → r ≡ r′
+is-run-wrong declared a run width r r′ p q = p ∙ sym q

@@ -3,5 +3,8 @@ mod Seeing
 pub mod Entering
 pub mod Places
 pub mod Vacating
+pub mod Passing
+pub mod Remaining
 pub mod Parts
+pub mod Running
 pub mod Determined

@@ -9,7 +9,7 @@ use mathlib.Core.Option.{Option, none, some}
 use lib.Dec.{ltb, eqb}
 use lib.ListN.{length, getD}
 use borrow.Author.Tests.{ltb-true, eqb-true}
-use Rattle.id_tables.proofs.Laws.{and-parts}
+use Rattle.refusal.specs.Truth.{and-parts}
 use Rattle.id_tables.specs.Ids.{Ids, idsOf}
 use Rattle.decl.specs.Decl.{Decl, archetypes, rowsOf, sizesOf}
 use Rattle.decl.specs.Places.{spanOf}

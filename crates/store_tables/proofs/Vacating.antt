@@ -8,6 +8,7 @@ use lib.Dec.{eqb}
 use lib.ListN.{getD}
 use borrow.Author.Tests.{leb-false, eqb-true, eqb-false, eq-eqb, not-false}
 use Rattle.handle.specs.Bits.{MAX, placeOf}
+use Rattle.refusal.specs.Truth.{neither}
 use Rattle.id_tables.specs.Ids.{Ids, generationAt, placeAt, placed, live, EntryOk}
 use Rattle.id_tables.proofs.Entering.{entry-ok}
 use Rattle.id_tables.proofs.Meaning.{ok-passes, is-live}
@@ -18,10 +19,6 @@ use Rattle.store_tables.specs.Store.{Store}
 use Rattle.store_tables.specs.Rows.{blockAt, archetypeOf, rowOf, lastNumber, isLast, movedDamaged, corrected, vacated}
 use Rattle.store_tables.specs.Kept.{Entered}
 use Rattle.store_tables.proofs.Places.{Owned}
-
-neither : (a b : Bool) → (a || b) ≡ false → (a ≡ false) × (b ≡ false)
-neither true b e = (e, cc)
-neither false b e = (refl, e)
 
 -- the number of the last row, where it has its own place
 pub record Moving (s : Store) (a : ℕ) : Type 0 where

@@ -2,4 +2,6 @@
 pub mod Store
 pub mod Rows
 pub mod Seen
+pub mod Held
 pub mod Kept
+pub mod Run

@@ -1,4 +1,6 @@
 // What every store call tests first, and the tests of places that several calls share.
+mod run;
+
 use decl::Span;
 use handle::Number;
 use handle::Place;
@@ -15,6 +17,7 @@ ghost use Rattle.id_tables.specs.Ids.{idsOf};
 ghost use Rattle.row_step.specs.Tables.{tablesOf};
 ghost use Rattle.store_tables.specs.Store.{storeOf, lentRules, entry};
 ghost use Rattle.store_tables.specs.Seen.{ownSeen, ownOf, movedSeen};
+pub use run::is_run_wrong;
 
 // A place is a row that holds the number, in an archetype with this part of the tables; or it is not.
 pub enum Own {

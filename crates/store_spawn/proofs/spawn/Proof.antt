@@ -1,7 +1,7 @@
 -- `store_spawn::spawn` meets its contract: the first tests refuse, or the next ones do; else a row is taken.
 -- Assumes nothing.
 use Rattle.store_spawn.proofs.Taking.{first-refuse, then-refuse, then-grant, span-is}
-use Rattle.store_spawn.proofs.Testing.{first-tests}
+use Rattle.store_tables.proofs.Running.{first-tests}
 use Rattle.store_tables.proofs.Entering.{entered}
 use Rattle.refusal.specs.Laws.{refuse, via, told}
 use mathlib.Core.Path.{_∙_}

@@ -1,8 +1,8 @@
--- `store_spawn::is_run_wrong` meets its contract: the rule's tests are the code's.
+-- `store_tables::run::is_run_wrong` meets its contract: the rule's tests are the code's.
 -- Assumes nothing.
 use borrow.Author.Tests.{lt-ltb, le-ltb}
-use Rattle.store_spawn.proofs.is_run_wrong.Statement.{statement}
-use Rattle.store_spawn.proofs.is_run_wrong.Tie as tie
+use Rattle.store_tables.proofs.run.is_run_wrong.Statement.{statement}
+use Rattle.store_tables.proofs.run.is_run_wrong.Tie as tie
 
 returns : tie.Need-returns
 returns c = rw (le-ltb _ _ (c .if1 .taken))

@@ -1,0 +1,6 @@
+-- Laws that the proofs of this crate share, and those that callers cite.
+pub mod Runs
+mod Ways
+pub mod Laws
+pub mod Refusing
+pub mod Determined

@@ -1,0 +1,3 @@
+-- The rules of the store's flush and clear.
+pub mod Flush
+pub mod Clear

@@ -1,0 +1,2 @@
+-- The rule of insert, and what its tests find.
+pub mod Insert

@@ -1,0 +1,13 @@
+-- `store_moves::place_at` meets its contract: the two entries are read.
+-- Assumes nothing.
+use borrow.Author.Needs.{needs}
+use Rattle.store_moves.proofs.tests.place_at.Statement.{statement}
+use Rattle.store_moves.proofs.tests.place_at.Tie as tie
+
+returns : tie.Need-returns
+returns c = rw (c .before .at .ensures, c .at2 .ensures)
+
+pub place-at-spec : {M : Type 1} → statement M
+place-at-spec =
+    tie.close
+    (tie.spec (λ c κs. search needs) (λ c κs. search needs) returns)

@@ -1,0 +1,65 @@
+-- What the tests see and the steps leave on any tables; on tables that pass the first tests they are the rules of Moves.
+use Prim.Native.Nat.{ℕ}
+use mathlib.Core.Bool.{not}
+use mathlib.Core.List.{List, [], _∷_}
+use mathlib.Core.Option.{Option, none, some}
+use lib.Dec.{leb}
+use lib.ListN.{getD, set}
+use Rattle.refusal.specs.Number.{numberOf}
+use Rattle.refusal.specs.Table.{Rule, _when_, Answer, granted, refused, _orElse_}
+use Rattle.handle.specs.declared.Place.{Place}
+use Rattle.borrow_word.specs.Slice.{anyHeld}
+use Rattle.id_tables.specs.Head.{flushed}
+use Rattle.id_tables.specs.Ids.{Ids, live, indexAt, placeAt}
+use Rattle.decl.specs.Decl.{Decl}
+use Rattle.decl.specs.declared.Span.{Span}
+use Rattle.cells.specs.Cell.{written}
+use Rattle.cells.specs.Line.{nextOf, pastOf, runLine, lineTold, transferred}
+use Rattle.cells.specs.declared.Line.{Line}
+use Rattle.row_step.specs.declared.Block.{Block}
+use Rattle.row_step.specs.Tables.{countOf}
+use Rattle.store_steps.specs.Seats.{Seats, seatsOf, seatedRows, vacatedSeats}
+use Rattle.store_tables.specs.Seen.{ownSeen, movedSeen}
+use Rattle.store_moves.specs.declared.tests.Entity.{Entity}
+use Rattle.store_moves.specs.declared.tests.Entity.the-variants.{At, Refused}
+
+-- the part of the tables that an entity's archetype has, and its place; 1 where that is not its own
+abbrev pub ownAt : Place → Option Span → Answer (Span × Place)
+ownAt place none = refused 1
+ownAt place (some span) = granted (span, place)
+
+unfoldable pub entitySeen : Decl → Ids → List ℕ → List ℕ → ℕ → ℕ → Answer (Span × Place)
+entitySeen d i numbers counts generation n =
+    3 when not (flushed (i .head))
+    ∷ 2 when not (live i generation n)
+    ∷ []
+    orElse ownAt (placeAt i n) (ownSeen d numbers counts (getD (i .archetypes) n 0) (indexAt i n) n)
+
+-- the document's number and values of each case
+abbrev pub entityOf : Entity → Answer (Span × Place)
+entityOf (At span place) = granted (span, place)
+entityOf (Refused r) = refused (numberOf r)
+
+-- a row at place (a, r) that is to move to archetype b, where the rows of a begin at `first`
+unfoldable pub moveSeen : ℕ → ℕ → List ℕ → List ℕ → List ℕ → List ℕ → List ℕ → List ℕ → ℕ → ℕ → ℕ → List Rule
+moveSeen first used rows archetypes indices numbers counts words a r b =
+    8 when anyHeld words
+    ∷ 4 when leb (getD rows b 0) (getD counts b 0)
+    ∷ 1 when movedSeen first used archetypes indices numbers counts a r
+    ∷ []
+
+-- the line past a run of columns and a value of one more
+abbrev pub afterOf : List ℕ → ℕ → Line
+afterOf before size = lineTold (nextOf (lineTold (pastOf runLine before)) size)
+
+-- a buffer with a row's bytes in it, a value between its columns before and those after
+unfoldable pub gathered : List ℕ → List ℕ → Line → List ℕ → ℕ → List ℕ → Line → List ℕ → List ℕ
+gathered out b row before size value rest after =
+    transferred b rest (written (transferred b row out runLine before) (lineTold (pastOf runLine before) .start) value) (afterOf before size) after
+
+-- number n's row at place (a, r) moved to the first unused row of archetype b, with a run of bytes, and its place written
+unfoldable pub movedSeats : Block → List ℕ → Block → List ℕ → Seats → ℕ → ℕ → ℕ → ℕ → List ℕ → Seats
+movedSeats from own to sizes t a r b n run = placedSeats (vacatedSeats from own (seatsOf (t .archetypes) (t .indices) (seatedRows to sizes (t .rows) b n run)) a r)
+  where
+    placedSeats : Seats → Seats
+    placedSeats u = seatsOf (set (u .archetypes) n b) (set (u .indices) n (countOf (t .rows) b)) (u .rows)

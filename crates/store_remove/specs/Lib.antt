@@ -1,0 +1,2 @@
+-- The rule of remove.
+pub mod Remove

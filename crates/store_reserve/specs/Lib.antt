@@ -1,0 +1,2 @@
+-- The rules of the store's reservations and of its free list.
+pub mod Reserve

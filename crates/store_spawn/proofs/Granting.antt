@@ -1,0 +1,48 @@
+-- When spawn is granted, and what it leaves then, for callers that do not open its rule.
+-- Assumes nothing.
+use Prim.Native.Nat.{ℕ, _<_}
+use mathlib.Core.Path.{_≡_, refl}
+use mathlib.Core.Bool.{Bool, true, false, _&&_}
+use mathlib.Core.List.{List, _++_}
+use borrow.Author.Tests.{lt-ltb, eq-eqb, eqb-true, not-false}
+use lib.Dec.{ltb}
+use lib.ListN.{length}
+use Rattle.refusal.specs.Table.{granted}
+use Rattle.refusal.specs.Laws.{passed-all, both}
+use Rattle.decl.specs.Decl.{Decl, archetypes}
+use Rattle.decl.specs.Places.{rowWidth}
+use Rattle.store_tables.specs.Store.{Store, entry}
+use Rattle.store_tables.specs.Kept.{Entered}
+use Rattle.store_tables.proofs.Entering.{entered, entered-right}
+use Rattle.store_tables.proofs.Passing.{entered-passes}
+use Rattle.store_tables.specs.Run.{runWrong}
+use Rattle.store_spawn.specs.Spawn.{nextIds, spawnRules, withEntity, spawned, spawning}
+use Rattle.store_spawn.proofs.Laws.{SpawnOk, spawn-ok, ok-spawn}
+use Rattle.store_spawn.proofs.Taking.{then-grant}
+
+-- the run is of the row's width
+module _ (d : Decl) (a : ℕ) (run : List ℕ) where
+  pub run-right : length run ≡ rowWidth d a → runWrong d a run ≡ false
+  unfolding runWrong
+  run-right e = rw (eq-eqb (length run) (rowWidth d a) e) (none (ltb a (archetypes d)))
+    where
+      none : (b : Bool) → (b && false) ≡ false
+      none true = refl
+      none false = refl
+
+  pub right-run : a < archetypes d → runWrong d a run ≡ false → length run ≡ rowWidth d a
+  unfolding runWrong
+  right-run h e = eqb-true _ _ (not-false _ (rw (lt-ltb a (archetypes d) h) at e))
+
+module _ (s : Store) (a : ℕ) (run : List ℕ) where
+  pub spawning-parts : {x : ℕ × Store} → granted x ≡ spawning s a run
+      → Entered s × (length run ≡ rowWidth (s .decl) a) × SpawnOk s a × (x ≡ (nextIds s a .0, withEntity s a run))
+  unfolding spawning
+  spawning-parts e =
+      let p = passed-all (entry s (runWrong (s .decl) a run) ++ spawnRules s a) (spawned s a run) e in
+      let b = both (entry s (runWrong (s .decl) a run)) (spawnRules s a) (p .0) in
+      let k = spawn-ok s a (b .1) in
+      (entered s _ (b .0), right-run (s .decl) a run (k .archetype-in) (entered-right s _ (b .0)), k, cc)
+
+  pub spawning-at : Entered s → length run ≡ rowWidth (s .decl) a → SpawnOk s a → spawning s a run ≡ granted (nextIds s a .0, withEntity s a run)
+  spawning-at e w k = then-grant s a run (entered-passes s _ e (run-right (s .decl) a run w)) (ok-spawn s a k)
