@@ -1,0 +1,3 @@
+-- The third demand, over the rules that the store's calls promise.
+pub mod Steps
+pub mod Demand
