@@ -1,0 +1,2 @@
+-- Laws of column calls that have crossed.
+pub mod Determined

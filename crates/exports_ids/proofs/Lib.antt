@@ -1,0 +1,3 @@
+-- Laws of what crosses with the id calls alone.
+pub mod Determined
+mod Laws

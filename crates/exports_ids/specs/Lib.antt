@@ -1,0 +1,3 @@
+-- What crosses with the id calls alone.
+pub mod State
+pub mod Words

@@ -1,0 +1,2 @@
+-- Laws of store calls that have crossed.
+pub mod Determined

@@ -1,0 +1,2 @@
+-- That the contracts leave no second result.
+pub mod Determined

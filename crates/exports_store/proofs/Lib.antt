@@ -1,0 +1,3 @@
+-- Laws of store calls that have crossed.
+pub mod Determined
+pub mod Store

@@ -1,0 +1,12 @@
+-- `exports_store::verdict_store_despawn` meets its contract.
+-- Assumes nothing.
+use borrow.Author.Needs.{needs}
+use Rattle.exports_store.proofs.Store.{passed-store}
+use Rattle.exports_store.proofs.verdict_store_despawn.Statement.{statement}
+use Rattle.exports_store.proofs.verdict_store_despawn.Tie as tie
+
+returns : tie.Need-returns
+returns c = rw (← c .before .before .before .before .before .before .before .before .before .before .before .before .before .before .before .before .before .before .before .before .before .before .before .before .head-of .ensures) (passed-store (c .before .before .before .before .before .before .before .before .before .before .before .before .before .before .before .before .despawn .ensures) (c .done .ensures .0) (rw (← c .before .before .before .before .before .before .before .before .before .before .before .before .before .before .before .before .before .before .before .before .before .before .before .before .head-of .ensures) at (c .done .ensures .1)))
+
+pub verdict-store-despawn-spec : {M : Type 1} → statement M
+verdict-store-despawn-spec = tie.close (tie.spec (λ c κs. search needs) (λ c κs. search needs) (λ c κs. search needs) (λ c. search needs) (λ c. search needs) (λ c. search needs) (λ c. search needs) (λ c. search needs) (λ c. search needs) (λ c. search needs) returns)

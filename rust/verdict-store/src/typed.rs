@@ -1,0 +1,151 @@
+//! The same calls with values in place of bytes.
+
+use crate::component::Bytes;
+use crate::{Bundle, Component, Entity, Refusal, VerdictStore};
+
+/// The widest row: sixteen columns of 64 bytes.
+const WIDEST: usize = 16 * 64;
+
+/// A row's bytes in ascending type number, and its types.
+struct Row {
+    kinds: [u32; 16],
+    columns: usize,
+    bytes: [u8; WIDEST],
+    length: usize,
+}
+
+impl Row {
+    /// The row of a tuple: none where it is no row of any archetype, a type twice
+    /// or too many bytes.
+    fn of(bundle: &impl Bundle) -> Option<Row> {
+        let mut parts = [(0u32, 0usize, 0usize); 16];
+        let (mut columns, mut given, mut gathered) = (0, 0, [0; WIDEST]);
+        let mut fits = true;
+        bundle.each(&mut |kind, bytes| {
+            let end = given + bytes.len();
+            fits = fits && columns < parts.len() && end <= WIDEST;
+            if fits {
+                gathered[given..end].copy_from_slice(bytes);
+                parts[columns] = (kind, given, end);
+                (columns, given) = (columns + 1, end);
+            }
+        });
+        let parts = &mut parts[..columns];
+        parts.sort_unstable();
+        let mut row = Row { kinds: [0; 16], columns, bytes: [0; WIDEST], length: 0 };
+        for (column, (kind, start, end)) in parts.iter().enumerate() {
+            let next = row.length + (end - start);
+            row.kinds[column] = *kind;
+            row.bytes[row.length..next].copy_from_slice(&gathered[*start..*end]);
+            row.length = next;
+        }
+        fits.then_some(row)
+    }
+
+    fn kinds(&self) -> &[u32] {
+        &self.kinds[..self.columns]
+    }
+
+    fn bytes(&self) -> &[u8] {
+        &self.bytes[..self.length]
+    }
+}
+
+impl VerdictStore {
+    /// Makes an entity of a tuple of components, in the archetype that has these
+    /// types; [`BadPlace`](Refusal::BadPlace) where none has.
+    ///
+    /// ```
+    /// # use verdict_store::doc::*;
+    /// let mut store = Declaration::new(64).of::<(Cost,)>(64).of::<(Cost, Verdict)>(64).build()?;
+    /// let candidate = store.spawn((Cost(12),))?;
+    /// let known = store.spawn((Verdict::Proven, Cost(3)))?;
+    /// assert_eq!(store.read::<Cost>(candidate)?, Cost(12));
+    /// assert_eq!(store.read::<Verdict>(known)?, Verdict::Proven);
+    /// assert_eq!(store.read::<Verdict>(candidate), Err(Refusal::NoComponent));
+    /// # Ok::<(), Box<dyn std::error::Error>>(())
+    /// ```
+    pub fn spawn(&mut self, components: impl Bundle) -> Result<Entity, Refusal> {
+        let row = Row::of(&components).ok_or(Refusal::BadPlace)?;
+        let archetype = self.archetype_of_types(row.kinds()).ok_or(Refusal::BadPlace)?;
+        self.spawn_bytes(archetype, row.bytes())
+    }
+
+    /// Makes an entity at a chosen handle. An entity that has the number leaves
+    /// first, whatever its generation.
+    ///
+    /// ```
+    /// # use verdict_store::doc::*;
+    /// let mut store = Declaration::new(64).of::<(Cost,)>(64).build()?;
+    /// let saved = Entity::new(5, 9).unwrap();
+    /// store.spawn_at(saved, (Cost(4),))?;
+    /// assert_eq!(store.read::<Cost>(saved)?, Cost(4));
+    /// # Ok::<(), Box<dyn std::error::Error>>(())
+    /// ```
+    pub fn spawn_at(&mut self, entity: Entity, components: impl Bundle) -> Result<(), Refusal> {
+        let row = Row::of(&components).ok_or(Refusal::BadPlace)?;
+        let archetype = self.archetype_of_types(row.kinds()).ok_or(Refusal::BadPlace)?;
+        self.spawn_at_bytes(entity, archetype, row.bytes())
+    }
+
+    /// The archetype of a tuple of components, if it is declared.
+    pub fn archetype_of<B: Bundle>(&self) -> Option<u32> {
+        let mut kinds: Vec<u32> = B::columns().iter().map(|column| column.kind).collect();
+        kinds.sort_unstable();
+        self.archetype_of_types(&kinds)
+    }
+
+    /// Gives an entity a component, which takes it to the archetype with that
+    /// type added; one that it has already is overwritten.
+    ///
+    /// ```
+    /// # use verdict_store::doc::*;
+    /// let mut cache = Declaration::new(64).of::<(Cost,)>(64).of::<(Cost, Verdict)>(64).build()?;
+    /// let e = cache.spawn((Cost(12),))?;
+    /// cache.insert(e, Verdict::Proven)?;
+    /// assert_eq!(cache.read::<Verdict>(e)?, Verdict::Proven);
+    /// assert_eq!(cache.read::<Cost>(e)?, Cost(12));
+    /// # Ok::<(), Box<dyn std::error::Error>>(())
+    /// ```
+    pub fn insert<T: Component>(&mut self, entity: Entity, component: T) -> Result<(), Refusal> {
+        self.insert_bytes(entity, T::TYPE, component.to_bytes().as_ref())
+    }
+
+    /// Takes a component from an entity and answers it. The entity goes to the
+    /// archetype without that type.
+    ///
+    /// ```
+    /// # use verdict_store::doc::*;
+    /// let mut store = Declaration::new(64).of::<(Cost,)>(64).of::<(Cost, Verdict)>(64).build()?;
+    /// let e = store.spawn((Cost(12), Verdict::Refuted))?;
+    /// assert_eq!(store.remove::<Verdict>(e)?, Verdict::Refuted);
+    /// assert_eq!(store.remove::<Verdict>(e), Err(Refusal::NoComponent));
+    /// # Ok::<(), Box<dyn std::error::Error>>(())
+    /// ```
+    pub fn remove<T: Component>(&mut self, entity: Entity) -> Result<T, Refusal> {
+        // What a granted removal took could be read before it.
+        let component = self.read(entity);
+        self.remove_type(entity, T::TYPE)?;
+        component
+    }
+
+    /// A component of an entity.
+    pub fn read<T: Component>(&self, entity: Entity) -> Result<T, Refusal> {
+        let bytes = self.read_bytes(entity, T::TYPE)?;
+        T::Bytes::from_slice(bytes).map(T::from_bytes).ok_or(Refusal::BadLength)
+    }
+
+    /// Overwrites a component that an entity has.
+    ///
+    /// ```
+    /// # use verdict_store::doc::*;
+    /// let mut store = Declaration::new(64).of::<(Cost,)>(64).build()?;
+    /// let e = store.spawn((Cost(12),))?;
+    /// store.write(e, Cost(11))?;
+    /// assert_eq!(store.read::<Cost>(e)?, Cost(11));
+    /// # Ok::<(), Box<dyn std::error::Error>>(())
+    /// ```
+    pub fn write<T: Component>(&mut self, entity: Entity, component: T) -> Result<(), Refusal> {
+        self.write_bytes(entity, T::TYPE, component.to_bytes().as_ref())
+    }
+}
