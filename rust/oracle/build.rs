@@ -45,6 +45,7 @@ fn main() {
         println!("cargo::rerun-if-changed={}", path.display());
         let Ok(bytes) = fs::read(&path) else {
             println!("cargo::rustc-cfg=no_hecs");
+            println!("cargo::metadata=missing=1");
             println!(
                 "cargo::warning=the original is missing: there is no {}; give the folder of hecs 0.11.2's src in HECS_SRC",
                 path.display()

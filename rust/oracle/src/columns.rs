@@ -24,28 +24,9 @@ impl Columns {
         assert_eq!(d.lengths(), lengths, "tables of other lengths than declared");
         assert_eq!(d.rows.len(), t.row_counts.len(), "row counts of another length than declared");
         let numbers = TypeNumbers::new(&d.types);
-        let archetypes = (0..d.rows.len())
-            .map(|a| {
-                assert!(t.row_counts[a] <= d.rows[a], "a row count above its rows");
-                let columns = d.columns(a);
-                let types = columns
-                    .clone()
-                    .map(|c| open::info(numbers.id(d.types[c]), d.sizes[c] as usize))
-                    .collect();
-                let mut made = open::build(types, d.rows[a]);
-                let first = d.first_row(a);
-                let rows = d.rows[a] as usize;
-                open::fill(&mut made, &t.row_numbers[first..first + rows], t.row_counts[a]);
-                for (j, c) in columns.enumerate() {
-                    let start = d.column_start(a, j);
-                    let bytes = &t.bytes[start..start + rows * d.sizes[c] as usize];
-                    unsafe {
-                        open::column(&made, j).copy_from_nonoverlapping(bytes.as_ptr(), bytes.len())
-                    }
-                }
-                made
-            })
-            .collect();
+        let mut counts = t.row_counts.iter().zip(&d.rows);
+        assert!(counts.all(|(count, rows)| count <= rows), "a row count above its rows");
+        let archetypes = open::filled(d, t, |kind| numbers.id(kind));
         Columns { declaration: d.clone(), numbers, archetypes }
     }
 
@@ -64,19 +45,7 @@ impl Columns {
     pub fn dump(&self, into: &mut ColumnTables) {
         let d = &self.declaration;
         assert_eq!(d.lengths(), (into.row_numbers.len(), into.bytes.len()));
-        for (a, original) in self.archetypes.iter().enumerate() {
-            let (first, rows) = (d.first_row(a), d.rows[a] as usize);
-            into.row_numbers[first..first + rows].copy_from_slice(open::rows(original, rows));
-            into.row_counts[a] = original.len();
-            for (j, c) in d.columns(a).enumerate() {
-                let start = d.column_start(a, j);
-                let bytes = &mut into.bytes[start..start + rows * d.sizes[c] as usize];
-                unsafe {
-                    open::column(original, j)
-                        .copy_to_nonoverlapping(bytes.as_mut_ptr(), bytes.len())
-                }
-            }
-        }
+        open::dump(&self.archetypes, d, into);
     }
 
     fn named(&self, archetype: u32) -> Said<usize> {

@@ -49,6 +49,9 @@ pub use present::*;
 pub mod handle;
 
 #[cfg(not(no_hecs))]
+pub mod bare;
+
+#[cfg(not(no_hecs))]
 mod columns;
 #[cfg(not(no_hecs))]
 mod ids;

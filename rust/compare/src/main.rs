@@ -1,0 +1,149 @@
+//! Compares the proved library with the original and with the second program.
+//!
+//!     compare                         all runs, a million calls and more
+//!     compare short                   the same with fewer calls
+//!     compare words|ids|columns|store [SEED [COUNT]]
+//!     compare replay FILE             a call that was answered otherwise, once more
+//!     compare list [SEED]             writes the fixed list of the program `replay` and what it is to print
+//!
+//! `words`, `ids` and `columns` are held to the original (hecs 0.11.2, which
+//! HECS_SRC gives at build time), `store` to the second program. The same seed
+//! and count make the same calls. A run ends with a table of what it did; it
+//! fails at the first difference, whose call it writes as a script for
+//! `replay`, or where a call or one of its refusal numbers never occurred.
+
+mod columns;
+mod ids;
+mod list;
+mod make;
+mod ours;
+mod store;
+mod tables;
+mod tally;
+mod words;
+
+use ours::{Difference, Ours};
+use std::process::exit;
+use tally::Tally;
+
+const SEED: u64 = 20_261_115;
+
+/// The runs, and how many calls each makes in a default and in a short run.
+const RUNS: [(&str, u64, u64); 4] = [
+    ("words", 300_000, 3_000),
+    ("ids", 400_000, 12_000),
+    ("columns", 300_000, 6_000),
+    ("store", 600_000, 100_000),
+];
+
+fn run(ours: &mut Ours, name: &str, seed: u64, count: u64) -> Result<(), String> {
+    if let (Some(missing), true) = (oracle::MISSING, name != "store") {
+        return Err(missing.to_string());
+    }
+    let mut tally = Tally::default();
+    let (done, wanted) = match name {
+        "words" => (words::run(ours, &mut tally, seed, count), words::WANTED.to_vec()),
+        "ids" => (ids::run(ours, &mut tally, seed, count), ids::WANTED.to_vec()),
+        "columns" => (columns::run(ours, &mut tally, seed, count), columns::WANTED.to_vec()),
+        _ => (store::run(ours, &mut tally, seed, count), store::wanted()),
+    };
+    if let Err(Difference { words, script }) = done {
+        let file = std::env::temp_dir().join("verdict-difference.txt");
+        std::fs::write(&file, script).map_err(|why| why.to_string())?;
+        let calls = tally.calls();
+        let file = file.display();
+        return Err(format!(
+            "{name}, seed {seed}: {words}\nafter at most {calls} calls; compare replay {file} makes that call again"
+        ));
+    }
+    tally.print(&format!("## {name}, seed {seed}"));
+    let missing = tally.missing(&wanted);
+    if !missing.is_empty() {
+        return Err(format!("{name}: {}", missing.join("; ")));
+    }
+    Ok(())
+}
+
+fn replay(file: &str) -> Result<(), String> {
+    let text = std::fs::read_to_string(file).map_err(|why| format!("{file}: {why}"))?;
+    let (frame, expected) = ours::from_script(&text).ok_or(format!("{file} is no such script"))?;
+    let mut ours = start()?;
+    let answer = ours.ask(&[&frame]);
+    if answer == expected {
+        println!("as it must be");
+        return Ok(());
+    }
+    let word = |bytes: &[u8], i: usize| {
+        bytes.get(i * 8..i * 8 + 8).map(|w| u64::from_le_bytes(w.try_into().unwrap()))
+    };
+    let words = answer.len().max(expected.len()) / 8;
+    let first = (0..words).find(|i| word(&answer, *i) != word(&expected, *i)).unwrap_or(0);
+    let (is, must) = (word(&answer, first), word(&expected, first));
+    Err(format!("word {first} of the answer is {is:x?} instead of {must:x?}"))
+}
+
+/// Writes the list and the output that it must have into the folder of the program `replay`.
+fn write_list(seed: u64) -> Result<(), String> {
+    if let Some(missing) = oracle::MISSING {
+        return Err(missing.to_string());
+    }
+    let folder = make::repository().join("crates/replay");
+    let (list, told) = list::write(seed);
+    for (name, text) in [("stdin", &list), ("stdout", &told)] {
+        let file = folder.join(name);
+        std::fs::write(&file, text).map_err(|why| format!("{}: {why}", file.display()))?;
+    }
+    let calls = list.lines().filter(|l| !l.starts_with("1 ") && *l != "0").count();
+    println!("{calls} calls in {} bytes", list.len());
+    Ok(())
+}
+
+fn start() -> Result<Ours, String> {
+    Ours::start(&make::server()?).map_err(|why| why.to_string())
+}
+
+fn all(short: bool) -> Result<(), String> {
+    let mut ours = start()?;
+    let mut left_out = Vec::new();
+    for (name, long, few) in RUNS {
+        if short && oracle::MISSING.is_some() && name != "store" {
+            left_out.push(name);
+            continue;
+        }
+        run(&mut ours, name, SEED, if short { few } else { long })?;
+    }
+    if let (Some(missing), false) = (oracle::MISSING, left_out.is_empty()) {
+        println!("{} were not compared: {missing}", left_out.join(", "));
+    }
+    Ok(())
+}
+
+fn main() {
+    let arguments: Vec<String> = std::env::args().skip(1).collect();
+    let words: Vec<&str> = arguments.iter().map(|s| s.as_str()).collect();
+    let done = match words[..] {
+        [] => all(false),
+        ["short"] => all(true),
+        ["replay", file] => replay(file),
+        ["list"] => write_list(SEED),
+        ["list", seed] => seed.parse().map_or_else(|_| usage(), write_list),
+        [name, ref rest @ ..] if RUNS.iter().any(|r| r.0 == name) && rest.len() < 3 => {
+            let usual = RUNS.iter().find(|r| r.0 == name).map_or(0, |r| r.1);
+            let number = |i: usize, usual: u64| rest.get(i).map_or(Ok(usual), |v| v.parse());
+            match (number(0, SEED), number(1, usual)) {
+                (Ok(seed), Ok(count)) => start().and_then(|mut o| run(&mut o, name, seed, count)),
+                _ => usage(),
+            }
+        }
+        _ => usage(),
+    };
+    if let Err(why) = done {
+        eprintln!("compare: {why}");
+        exit(1);
+    }
+}
+
+fn usage() -> ! {
+    eprintln!("usage: compare [short | words|ids|columns|store [SEED [COUNT]] | replay FILE | list [SEED]]");
+    exit(2)
+}

@@ -1,0 +1,397 @@
+//! The store, and the id and column calls on any tables, against the second program.
+
+use crate::ours::{Difference, Exchange, Ours, CALLS};
+use crate::tables::{
+    above_limit, bytes, damage, row_width, size_of, some_handle, some_type, sound,
+};
+use crate::tally::Tally;
+use oracle::sequences::Rng;
+use second::{columns, ids, store, Place, Tables, MAX};
+
+/// What each call can answer. A call that is not exported is left out.
+pub const WANTED: &[(&str, &str, &[u32])] = &[
+    ("ids reserve entity", "verdict_ids_reserve_entity", &[0, 12, 13, 1, 4]),
+    ("ids reserve entities", "verdict_ids_reserve_entities", &[0, 12, 13, 1, 4]),
+    ("ids alloc", "verdict_ids_alloc", &[0, 12, 13, 1, 3, 6, 4]),
+    ("ids alloc many", "verdict_ids_alloc_many", &[0, 12, 13, 1, 3, 6, 4]),
+    ("ids alloc many next", "verdict_ids_alloc_many_next", &[0, 13]),
+    ("ids alloc at", "verdict_ids_alloc_at", &[0, 12, 13, 1, 5, 3, 6, 4]),
+    ("ids free", "verdict_ids_free", &[0, 12, 13, 1, 5, 3, 2]),
+    ("ids contains", "verdict_ids_contains", &[0, 12, 13, 1, 5]),
+    ("ids get", "verdict_ids_get", &[0, 12, 13, 1, 5, 2]),
+    ("ids set place", "verdict_ids_set_place", &[0, 12, 13, 1, 5, 6, 2]),
+    ("ids resolve", "verdict_ids_resolve_unknown_gen", &[0, 12, 13, 1, 2]),
+    ("ids flush", "verdict_ids_flush", &[0, 12, 13, 1, 6]),
+    ("ids len", "verdict_ids_len", &[0, 12, 13, 1]),
+    ("ids freelist", "verdict_ids_freelist", &[0, 12, 13, 1]),
+    ("ids clear", "verdict_ids_clear", &[0, 12, 13, 1]),
+    ("columns allocate", "verdict_columns_allocate", &[0, 12, 13, 1, 6, 4]),
+    ("columns remove", "verdict_columns_remove", &[0, 12, 13, 1, 6]),
+    ("columns move out", "verdict_columns_move_out", &[0, 12, 13, 1, 6]),
+    ("columns put", "verdict_columns_put", &[0, 12, 13, 1, 6, 15]),
+    ("columns get", "verdict_columns_get", &[0, 12, 13, 1, 6, 15]),
+    ("columns lookup", "verdict_columns_lookup", &[0, 12, 6, 15]),
+    ("columns ids", "verdict_columns_ids", &[0, 12, 13, 1, 6]),
+    ("spawn", "verdict_store_spawn", &[0, 12, 13, 1, 3, 6, 8, 4]),
+    ("spawn at", "verdict_store_spawn_at", &[0, 12, 13, 1, 5, 3, 6, 8, 4]),
+    ("despawn", "verdict_store_despawn", &[0, 12, 13, 1, 5, 3, 2, 8]),
+    ("insert", "verdict_store_insert", &[0, 12, 13, 1, 5, 3, 2, 14, 8, 4]),
+    ("remove", "verdict_store_remove", &[0, 12, 13, 1, 5, 3, 2, 14, 15, 8, 4]),
+    ("read", "verdict_store_read", &[0, 12, 13, 1, 5, 2, 15, 7]),
+    ("write", "verdict_store_write", &[0, 12, 13, 1, 5, 2, 15, 8]),
+    ("borrow", "verdict_store_borrow", &[0, 12, 13, 1, 6, 15, 9, 7]),
+    ("borrow mut", "verdict_store_borrow_mut", &[0, 12, 13, 1, 6, 15, 8]),
+    ("release", "verdict_store_release", &[0, 12, 13, 1, 6, 15, 10, 11]),
+    ("release mut", "verdict_store_release_mut", &[0, 12, 13, 1, 6, 15, 11]),
+    ("reserve entity", "verdict_store_reserve_entity", &[0, 12, 13, 1, 4]),
+    ("reserve entities", "verdict_store_reserve_entities", &[0, 12, 13, 1, 4]),
+    ("freelist", "verdict_store_freelist", &[0, 12, 13, 1]),
+    ("flush", "verdict_store_flush", &[0, 12, 13, 1, 8, 4]),
+    ("clear", "verdict_store_clear", &[0, 12, 13, 1, 8]),
+    ("get", "verdict_store_get", &[0, 12, 13, 1, 5, 2]),
+    ("contains", "verdict_store_contains", &[0, 12, 13, 1, 5]),
+    ("resolve", "verdict_store_resolve_unknown_gen", &[0, 12, 13, 1, 2]),
+    ("len", "verdict_store_len", &[0, 12, 13, 1]),
+];
+
+/// Those that the library exports.
+pub fn wanted() -> Vec<(&'static str, &'static [u32])> {
+    WANTED.iter().filter(|w| CALLS.contains(&w.1)).map(|w| (w.0, w.2)).collect()
+}
+
+/// A call's arguments. Each kind of call uses some of them.
+#[derive(Clone, Debug)]
+struct Arguments {
+    bits: u64,
+    number: u32,
+    archetype: u32,
+    row: u32,
+    ty: u32,
+    n: u64,
+    /// A row's bytes, a component's bytes, and outputs.
+    run: Vec<u8>,
+    value: Vec<u8>,
+    taken: Vec<u8>,
+    handles: Vec<u64>,
+    state: ids::AllocManyState,
+}
+
+fn arguments(rng: &mut Rng, t: &Tables) -> Arguments {
+    let d = &t.declaration;
+    let archetype = match rng.below(16) {
+        0 => MAX,
+        1 => d.rows.len() as u32,
+        _ => rng.below(d.rows.len().max(1) as u64) as u32,
+    };
+    let count = t.row_counts.get(archetype as usize).copied().unwrap_or(0);
+    let row = match rng.below(12) {
+        0 => MAX,
+        1 => MAX - 1,
+        2 => count,
+        3 | 4 => count.saturating_sub(1),
+        _ => rng.below(u64::from(count.min(20)).max(1)) as u32,
+    };
+    let bits = some_handle(rng, t);
+    let own = t.archetypes.get(bits as u32 as usize).copied().unwrap_or(0);
+    let near = if rng.percent(60) { own } else { archetype };
+    let ty = some_type(rng, d, near);
+    let n = match rng.below(12) {
+        0 => rng.pick(&[u64::MAX, 1 << 63, MAX.into(), 1 << 32, 17]),
+        1 => t.head.pending,
+        2 => (t.generations.len() as u64)
+            .wrapping_sub(t.head.used)
+            .wrapping_add(t.head.cursor as u64),
+        _ => rng.below(5),
+    };
+    let off = |rng: &mut Rng, size: usize| match rng.below(24) {
+        0 => size + 1,
+        1 => size.saturating_sub(1),
+        _ => size,
+    };
+    let width = off(rng, row_width(d, archetype).min(2000));
+    let size = size_of(d, ty).unwrap_or(rng.below(4) as usize).min(70);
+    let size = off(rng, size);
+    let free = t.head.cursor.clamp(0, 50) as usize;
+    let room = n.min(50) as usize;
+    let length = match rng.below(12) {
+        0 => room.saturating_sub(1),
+        1 => free.saturating_sub(1),
+        _ => room.max(free) + rng.below(3) as usize,
+    };
+    let position = rng.below(6);
+    let next = rng.below(9) as u32;
+    Arguments {
+        bits,
+        number: bits as u32,
+        archetype,
+        row,
+        ty,
+        n,
+        run: bytes(rng, width),
+        value: bytes(rng, size),
+        taken: bytes(rng, width),
+        handles: (0..length).map(|_| rng.number()).collect(),
+        state: ids::AllocManyState {
+            position,
+            end: position.saturating_sub(1) + rng.below(40),
+            next,
+            new_end: next.saturating_sub(1) + rng.below(3) as u32,
+        },
+    }
+}
+
+fn head(t: &Tables) -> [u64; 4] {
+    [t.head.used, t.head.pending, t.head.cursor as u64, t.head.live]
+}
+
+fn declared(e: Exchange, t: &Tables) -> Exchange {
+    let d = &t.declaration;
+    e.lent("rows", &d.rows)
+        .lent("widths", &d.widths)
+        .lent("types", &d.types)
+        .lent("sizes", &d.sizes)
+}
+
+fn id_tables(e: Exchange, b: &Tables, a: &Tables) -> Exchange {
+    e.slice("generations", &b.generations, &a.generations)
+        .slice("archetypes", &b.archetypes, &a.archetypes)
+        .slice("indices", &b.indices, &a.indices)
+        .slice("pending", &b.pending, &a.pending)
+}
+
+fn row_tables(e: Exchange, b: &Tables, a: &Tables) -> Exchange {
+    e.slice("numbers", &b.row_numbers, &a.row_numbers)
+        .slice("counts", &b.row_counts, &a.row_counts)
+        .slice("bytes", &b.bytes, &a.bytes)
+}
+
+/// What a call is lent, before and after, by the layer that its name tells.
+fn lent(name: &'static str, code: u32, b: &Tables, a: &Tables) -> Exchange {
+    let e = Exchange::new(name, code);
+    if name.starts_with("verdict_ids") {
+        return id_tables(e.array("head", &head(b), &head(a)), b, a);
+    }
+    if name == "verdict_columns_lookup" {
+        return declared(e, b);
+    }
+    if name.starts_with("verdict_columns") {
+        return row_tables(declared(e, b), b, a);
+    }
+    let e = id_tables(declared(e.array("head", &head(b), &head(a)), b), b, a);
+    row_tables(e, b, a).slice("words", &b.words, &a.words)
+}
+
+fn pair(p: Place) -> Vec<u64> {
+    vec![p.archetype.into(), p.index.into()]
+}
+
+fn flag(some: Option<Vec<u64>>) -> Vec<u64> {
+    some.map_or(vec![0], |v| [vec![1], v].concat())
+}
+
+/// What the second program makes of a call: the number, the values, and what
+/// it left of the tables and the outputs.
+struct Answered {
+    code: u32,
+    out: Vec<u64>,
+    after: Tables,
+    arguments: Arguments,
+}
+
+fn answered(kind: &str, t: &Tables, x: &Arguments) -> Answered {
+    let mut a = t.clone();
+    let mut y = x.clone();
+    let place = Place { archetype: x.archetype, index: x.row };
+    let part = |p: (usize, usize)| vec![p.0 as u64, p.1 as u64];
+    let one = |v: u64| vec![v];
+    let none = |()| Vec::new();
+    let said: Result<Vec<u64>, u32> = match kind {
+        "ids reserve entity" => ids::reserve_entity(&mut a).map(one),
+        "ids reserve entities" => ids::reserve_entities(&mut a, x.n, &mut y.handles).map(none),
+        "ids alloc" => ids::alloc(&mut a, place).map(one),
+        "ids alloc many" => ids::alloc_many(&mut a, x.n, x.archetype, x.row).map(|s| {
+            y.state = s;
+            Vec::new()
+        }),
+        "ids alloc many next" => {
+            ids::alloc_many_next(&mut y.state, &a.pending).map(|n| flag(n.map(|n| vec![n.into()])))
+        }
+        "ids alloc at" => ids::alloc_at(&mut a, x.bits, place).map(|p| flag(p.map(pair))),
+        "ids free" => ids::free(&mut a, x.bits).map(pair),
+        "ids contains" => ids::contains(&a, x.bits).map(|y| one(y.into())),
+        "ids get" => ids::get(&a, x.bits).map(pair),
+        "ids set place" => ids::set_place(&mut a, x.bits, place).map(none),
+        "ids resolve" => ids::resolve_unknown_gen(&a, x.number).map(one),
+        "ids flush" => ids::flush(&mut a, x.archetype, x.row).map(none),
+        "ids len" => ids::len(&a).map(one),
+        "ids freelist" => ids::freelist(&a, &mut y.handles).map(one),
+        "ids clear" => ids::clear(&mut a).map(none),
+        "columns allocate" => {
+            columns::allocate(&mut a, x.archetype, x.number).map(|r| one(r.into()))
+        }
+        "columns remove" => {
+            columns::remove(&mut a, x.archetype, x.row).map(|n| flag(n.map(|n| vec![n.into()])))
+        }
+        "columns move out" => columns::move_out(&mut a, x.archetype, x.row, &mut y.taken)
+            .map(|n| flag(n.map(|n| vec![n.into()]))),
+        "columns put" => columns::put(&mut a, x.archetype, x.row, x.ty, &x.value).map(none),
+        "columns get" => columns::get(&a, x.archetype, x.row, x.ty).map(part),
+        "columns lookup" => {
+            columns::lookup(&a.declaration, x.archetype, x.ty).map(|c| one(c.into()))
+        }
+        "columns ids" => columns::ids(&a, x.archetype).map(part),
+        "spawn" => store::spawn(&mut a, x.archetype, &x.run).map(one),
+        "spawn at" => store::spawn_at(&mut a, x.bits, x.archetype, &x.run).map(none),
+        "despawn" => store::despawn(&mut a, x.bits).map(none),
+        "insert" => store::insert(&mut a, x.bits, x.ty, &x.value).map(none),
+        "remove" => store::remove(&mut a, x.bits, x.ty).map(none),
+        "read" => store::read(&a, x.bits, x.ty).map(part),
+        "write" => store::write(&mut a, x.bits, x.ty, &x.value).map(none),
+        "borrow" => store::borrow(&mut a, x.archetype, x.ty).map(none),
+        "borrow mut" => store::borrow_mut(&mut a, x.archetype, x.ty).map(none),
+        "release" => store::release(&mut a, x.archetype, x.ty).map(none),
+        "release mut" => store::release_mut(&mut a, x.archetype, x.ty).map(none),
+        "reserve entity" => store::reserve_entity(&mut a).map(one),
+        "reserve entities" => store::reserve_entities(&mut a, x.n, &mut y.handles).map(none),
+        "freelist" => store::freelist(&a, &mut y.handles).map(one),
+        "flush" => store::flush(&mut a).map(none),
+        "clear" => store::clear(&mut a).map(none),
+        "get" => store::get(&a, x.bits).map(pair),
+        "contains" => store::contains(&a, x.bits).map(|y| one(y.into())),
+        "resolve" => store::resolve(&a, x.number).map(one),
+        "len" => store::len(&a).map(one),
+        _ => unreachable!("{kind}"),
+    };
+    let (code, out) = match said {
+        Ok(values) => (0, values),
+        Err(number) => {
+            assert_eq!(a, *t, "the second program changed what it refused");
+            (number, Vec::new())
+        }
+    };
+    Answered { code, out, after: a, arguments: y }
+}
+
+fn state(s: &ids::AllocManyState) -> [u32; 4] {
+    [s.position as u32, s.end as u32, s.next, s.new_end]
+}
+
+/// The exchange of a call that the second program answered so.
+fn exchange(kind: &str, name: &'static str, t: &Tables, x: &Arguments, s: &Answered) -> Exchange {
+    let y = &s.arguments;
+    if kind == "ids alloc many next" {
+        return Exchange::new(name, s.code)
+            .array("state", &state(&x.state), &state(&y.state))
+            .lent("pending", &t.pending)
+            .out(&s.out);
+    }
+    let e = lent(name, s.code, t, &s.after);
+    let (a, row, ty) = (u64::from(x.archetype), u64::from(x.row), u64::from(x.ty));
+    match kind {
+        "ids alloc" | "columns remove" => e.numbers(&[a, row]).out(&s.out),
+        "ids alloc at" => e.numbers(&[x.bits, a, row]).out(&s.out),
+        "ids set place" => e.numbers(&[x.bits, a, row]),
+        "ids flush" => e.numbers(&[a, row]),
+        "ids alloc many" => {
+            let left = if s.code == 0 { state(&y.state) } else { [0; 4] };
+            e.numbers(&[x.n, a, row]).array("out", &[7u32, 8, 9, 10], &left)
+        }
+        "ids reserve entities" | "reserve entities" => {
+            e.numbers(&[x.n]).slice("handles", &x.handles, &y.handles)
+        }
+        "ids freelist" | "freelist" => e.slice("handles", &x.handles, &y.handles).out(&s.out),
+        "ids free" | "ids contains" | "ids get" | "contains" | "get" => {
+            e.numbers(&[x.bits]).out(&s.out)
+        }
+        "ids resolve" | "resolve" => e.numbers(&[x.number.into()]).out(&s.out),
+        "ids reserve entity" | "reserve entity" | "ids len" | "len" => e.out(&s.out),
+        "ids clear" | "clear" | "flush" => e,
+        "columns allocate" => e.numbers(&[a, x.number.into()]).out(&s.out),
+        "columns move out" => e.slice("taken", &x.taken, &y.taken).numbers(&[a, row]).out(&s.out),
+        "columns put" => e.numbers(&[a, row, ty]).lent("value", &x.value),
+        "columns get" => e.numbers(&[a, row, ty]).out(&s.out),
+        "columns lookup" => e.numbers(&[a, ty]).out(&s.out),
+        "columns ids" => e.numbers(&[a]).out(&s.out),
+        "spawn" => e.numbers(&[a]).lent("run", &x.run).out(&s.out),
+        "spawn at" => e.numbers(&[x.bits, a]).lent("run", &x.run),
+        "despawn" => e.numbers(&[x.bits]),
+        "insert" | "write" => e.numbers(&[x.bits, ty]).lent("value", &x.value),
+        "remove" => e.numbers(&[x.bits, ty]),
+        "read" => e.numbers(&[x.bits, ty]).out(&s.out),
+        "borrow" | "borrow mut" | "release" | "release mut" => e.numbers(&[a, ty]),
+        _ => unreachable!("{kind}"),
+    }
+}
+
+fn tables(kind: &str) -> u64 {
+    match kind {
+        "ids alloc many next" => 2,
+        "columns lookup" => 4,
+        _ if kind.starts_with("ids") => 5,
+        _ if kind.starts_with("columns") => 7,
+        _ => 13,
+    }
+}
+
+/// A random call of this kind: its exchange by the second program, the number, and what it left.
+pub fn made(rng: &mut Rng, which: usize, t: &Tables) -> (Exchange, u32, Tables) {
+    let (kind, name, _) = WANTED[which];
+    let x = arguments(rng, t);
+    let s = answered(kind, t, &x);
+    (exchange(kind, name, t, &x, &s), s.code, s.after)
+}
+
+/// The same, compared.
+fn play(
+    ours: &mut Ours,
+    tally: &mut Tally,
+    rng: &mut Rng,
+    which: usize,
+    t: &Tables,
+) -> Result<Tables, Difference> {
+    let kind = WANTED[which].0;
+    let (exchange, code, after) = made(rng, which, t);
+    tally.called(kind, code, tables(kind));
+    ours.compare(exchange)?;
+    Ok(after)
+}
+
+/// The positions in [`WANTED`] of what the library exports.
+pub fn exported() -> Vec<usize> {
+    (0..WANTED.len()).filter(|i| CALLS.contains(&WANTED[*i].1)).collect()
+}
+
+/// Short sequences until there were `count` calls: of store calls, mostly on
+/// sound tables, and of all calls on tables of every kind; now and then every
+/// call at a capacity above the limit.
+pub fn run(ours: &mut Ours, tally: &mut Tally, seed: u64, count: u64) -> Result<(), Difference> {
+    let exported = exported();
+    let of_store = |i: &usize| WANTED[*i].1.starts_with("verdict_store");
+    let store: Vec<usize> = exported.iter().copied().filter(of_store).collect();
+    let mut rng = Rng(seed);
+    for s in 0.. {
+        if tally.calls() >= count {
+            break;
+        }
+        if s % 1000 == 0 {
+            let t = above_limit(&mut rng);
+            for which in &exported {
+                play(ours, tally, &mut rng, *which, &t)?;
+            }
+        }
+        let mut t = sound(&mut rng);
+        let mixed = rng.percent(50);
+        if mixed || rng.percent(30) {
+            damage(&mut rng, &mut t);
+        }
+        let calls = if mixed { &exported } else { &store };
+        for _ in 0..20 {
+            let which = rng.pick(calls);
+            if WANTED[which].0.ends_with("clear") && rng.percent(50) {
+                continue;
+            }
+            t = play(ours, tally, &mut rng, which, &t)?;
+        }
+    }
+    ours.settle()
+}

@@ -1,0 +1,73 @@
+//! What a run did: calls of each kind, refusals by number, tables compared.
+
+use std::collections::BTreeMap;
+
+#[derive(Clone, Debug, Default)]
+struct Kind {
+    /// How often each number was answered; 0 for granted.
+    answers: BTreeMap<u32, u64>,
+    /// Calls left out because document 01 refuses them with this number and the original has no such refusal.
+    outside: BTreeMap<u32, u64>,
+}
+
+#[derive(Debug, Default)]
+pub struct Tally {
+    kinds: BTreeMap<&'static str, Kind>,
+    tables: u64,
+}
+
+impl Tally {
+    /// A compared call and how many tables were lent to it.
+    pub fn called(&mut self, kind: &'static str, code: u32, tables: u64) {
+        *self.kinds.entry(kind).or_default().answers.entry(code).or_default() += 1;
+        self.tables += tables;
+    }
+
+    pub fn left_out(&mut self, kind: &'static str, code: u32) {
+        *self.kinds.entry(kind).or_default().outside.entry(code).or_default() += 1;
+    }
+
+    pub fn calls(&self) -> u64 {
+        self.kinds.values().flat_map(|k| k.answers.values()).sum()
+    }
+
+    /// The table.
+    pub fn print(&self, title: &str) {
+        println!("{title}");
+        println!("| call | calls | granted | refused, by number | left out |");
+        println!("|---|---|---|---|---|");
+        let list = |numbers: &BTreeMap<u32, u64>| {
+            let some = numbers.iter().filter(|(code, _)| **code != 0);
+            some.map(|(code, n)| format!("{code}: {n}")).collect::<Vec<_>>().join(", ")
+        };
+        for (name, kind) in &self.kinds {
+            let calls: u64 = kind.answers.values().sum();
+            let granted = kind.answers.get(&0).copied().unwrap_or(0);
+            let (refused, outside) = (list(&kind.answers), list(&kind.outside));
+            println!("| {name} | {calls} | {granted} | {refused} | {outside} |");
+        }
+        let outside: u64 = self.kinds.values().flat_map(|k| k.outside.values()).sum();
+        println!(
+            "{} calls and {} tables compared, no difference; {outside} calls left out\n",
+            self.calls(),
+            self.tables
+        );
+    }
+
+    /// What must have occurred and did not: each call with each number that it can give.
+    pub fn missing(&self, wanted: &[(&'static str, &[u32])]) -> Vec<String> {
+        let none = Kind::default();
+        let mut missing = Vec::new();
+        for (name, codes) in wanted {
+            let kind = self.kinds.get(name).unwrap_or(&none);
+            let absent = codes.iter().filter(|code| !kind.answers.contains_key(code));
+            missing.extend(absent.map(|code| match code {
+                0 => format!("{name} was never granted"),
+                code => format!("{name} never refused {code}"),
+            }));
+            let others = kind.answers.keys().filter(|code| !codes.contains(code));
+            missing.extend(others.map(|code| format!("{name} is not known to answer {code}")));
+        }
+        missing
+    }
+}
