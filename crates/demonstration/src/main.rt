@@ -1,84 +1,110 @@
-// Runs document 01's examples of handles and borrow words, and prints what each call answers as a table.
-use borrow_word::Borrowed;
-use handle::Bits;
-use handle::Handle;
+// A superoptimiser's cache of candidates: they are found, proved, timed out, given up and announced, while rows move and fall into holes.
+mod cache;
+mod calls;
+mod say;
+mod show;
+
+use cache::COST;
+use cache::Cache;
+use cache::KEY;
+use cache::VERDICT;
 use handle::Number;
 
-fn text(words: &[u8]) {
-    io::write_all(1, words);
+const PROVEN: u8 = 1;
+
+const REFUTED: u8 = 2;
+
+fn bits(number: u32, generation: u32) -> u64 {
+    handle::bits_of(generation, Number(number))
 }
 
-fn number(value: u64) {
-    io::print_decimal(1, value);
-    text(b"\n");
+fn found(cache: Cache, cost: u8, key: u8) -> Cache {
+    say::text(b"  cost ");
+    say::number(cost as u64);
+    say::text(b", key ");
+    say::number(key as u64);
+    say::text(b": ");
+    calls::spawn(cache, 2, &[cost, 0, 0, 0, key, 0, 0, 0, 0, 0, 0, 0])
 }
 
-fn bits(answer: Bits) {
-    match answer {
-        Bits::Good(handle) => {
-            text(b"handle ");
-            number(handle.to_bits());
-        }
-        Bits::Refused(r) => {
-            text(b"refused ");
-            number(r.number() as u64);
-        }
-    }
+fn find(cache: Cache) -> Cache {
+    say::text(b"Five candidates are found.\n");
+    let cache = found(cache, 31, 160);
+    let cache = found(cache, 27, 161);
+    let cache = found(cache, 45, 162);
+    let cache = found(cache, 12, 163);
+    found(cache, 18, 164)
 }
 
-fn word(answer: Borrowed) {
-    match answer {
-        Borrowed::Granted(left) => {
-            text(b"word ");
-            number(left);
-        }
-        Borrowed::Refused(r) => {
-            text(b"refused ");
-            number(r.number() as u64);
-        }
-    }
+fn prove(cache: Cache) -> Cache {
+    say::text(b"Two queries are answered.\n  1v1 is proven: ");
+    let cache = calls::insert(cache, bits(1, 1), VERDICT, &[PROVEN]);
+    say::text(b"  2v1 is refuted: ");
+    calls::insert(cache, bits(2, 1), VERDICT, &[REFUTED])
 }
 
-fn handles() {
-    text(b"K1  handle of number 7, generation 2      ");
-    bits(Handle::new(Number(7), 2));
-    text(b"    its bits, read back                   ");
-    bits(Handle::from_bits(8589934599));
-    text(b"K2  handle of the bits 4294967295         ");
-    bits(Handle::from_bits(4294967295));
-    text(b"    DANGLING                              ");
-    let dangling = Handle::DANGLING;
-    bits(Handle::from_bits(dangling.to_bits()));
+fn time_out(cache: Cache) {
+    say::text(b"The query of 0v1 times out: nothing is written.\n  verdict of 0v1: ");
+    show::verdict(cache, bits(0, 1));
 }
 
-fn words() {
-    text(b"K11 word 2^63 - 1, shared                 ");
-    word(borrow_word::shared(0x7fff_ffff_ffff_ffff));
-    text(b"    word 2^63, shared                     ");
-    word(borrow_word::shared(0x8000_0000_0000_0000));
-    text(b"    word 1, unique                        ");
-    word(borrow_word::unique(1));
+fn withdraw(cache: Cache) -> Cache {
+    say::text(
+        b"The proof of 1v1 is withdrawn, and 2v1 falls into its row.\n  1v1 loses its verdict: ",
+    );
+    let cache = calls::remove(cache, bits(1, 1), VERDICT);
+    say::text(b"  verdict of 1v1: ");
+    show::verdict(cache, bits(1, 1));
+    say::text(b"  verdict of 2v1: ");
+    show::verdict(cache, bits(2, 1));
+    cache
 }
 
-// One table of words: position 0 holds the top bit and a count of 2.
-fn table() {
-    let mut words = [0x8000_0000_0000_0002u64, 0];
-    text(b"K13 top bit and count 2, unique release   ");
-    word(borrow_word::unique_release_at(&mut words, 0));
-    text(b"    shared there                          ");
-    word(borrow_word::shared_at(&mut words, 0));
-    text(b"    release of a word that is not held    ");
-    word(borrow_word::release_at(&mut words, 1));
-    text(b"    unique there                          ");
-    word(borrow_word::unique_at(&mut words, 1));
-    text(b"    shared release of it                  ");
-    word(borrow_word::release_at(&mut words, 1));
-    text(b"    unique past the table                 ");
-    word(borrow_word::unique_at(&mut words, 2));
+fn give_up(cache: Cache) -> Cache {
+    say::text(b"Candidate 0v1 is given up.\n  despawn 0v1: ");
+    let cache = calls::despawn(cache, bits(0, 1));
+    say::text(b"  cost of 0v1: ");
+    show::component(cache, bits(0, 1), COST);
+    cache
+}
+
+fn announce(cache: Cache) -> Cache {
+    say::text(b"Three candidates are announced.\n  reserve 3: ");
+    let cache = calls::reserve(cache);
+    let cache = found(cache, 9, 166);
+    say::text(b"  flush: ");
+    calls::flush(cache)
+}
+
+fn work_out(cache: Cache) -> Cache {
+    say::text(b"Candidate 5v1 is worked out.\n  its cost is 22: ");
+    let cache = calls::insert(cache, bits(5, 1), COST, &[22, 0, 0, 0]);
+    say::text(b"  its key is 165: ");
+    let cache = calls::insert(cache, bits(5, 1), KEY, &[165, 0, 0, 0, 0, 0, 0, 0]);
+    say::text(b"  it is proven: ");
+    let cache = calls::insert(cache, bits(5, 1), VERDICT, &[PROVEN]);
+    say::text(b"  6v1, which has no cost, is proven: ");
+    calls::insert(cache, bits(6, 1), VERDICT, &[PROVEN])
+}
+
+fn table(cache: Cache) {
+    say::text(b"What each candidate holds.\n");
+    show::candidate(cache, bits(0, 2));
+    show::candidate(cache, bits(1, 1));
+    show::candidate(cache, bits(2, 1));
+    show::candidate(cache, bits(3, 1));
+    show::candidate(cache, bits(4, 1));
+    show::candidate(cache, bits(5, 1));
+    show::candidate(cache, bits(6, 1));
 }
 
 fn main() {
-    handles();
-    words();
-    table();
+    let cache = find(cache::empty());
+    let cache = prove(cache);
+    time_out(cache);
+    let cache = withdraw(cache);
+    let cache = give_up(cache);
+    let cache = announce(cache);
+    let cache = work_out(cache);
+    table(cache);
 }
