@@ -16,6 +16,9 @@ pub const TYPES: [u32; 6] = [COST, COST, KEY, COST, KEY, VERDICT];
 
 pub const SIZES: [u32; 6] = [4, 4, 8, 4, 8, 1];
 
+// What the rows of all archetypes take: 4 × 4 + 6 × 12 + 6 × 13.
+pub const BYTES: usize = 166;
+
 pub struct Cache {
     pub head: Head,
     pub generations: [u32; 8],
@@ -24,7 +27,7 @@ pub struct Cache {
     pub pending: [u32; 8],
     pub numbers: [u32; 20],
     pub counts: [u32; 4],
-    pub bytes: [u8; 166],
+    pub bytes: [u8; BYTES],
     pub words: [u64; 6],
 }
 
@@ -37,7 +40,7 @@ pub fn empty() -> Cache {
         pending: [0; 8],
         numbers: [0; 20],
         counts: [0; 4],
-        bytes: [0; 166],
+        bytes: [0; BYTES],
         words: [0; 6],
     }
 }

@@ -1,4 +1,5 @@
 // What a candidate holds, and the table of all candidates.
+use crate::cache::BYTES;
 use crate::cache::COST;
 use crate::cache::Cache;
 use crate::cache::KEY;
@@ -9,46 +10,37 @@ use crate::cache::VERDICT;
 use crate::cache::WIDTHS;
 use crate::say;
 use id_tables::Found;
+use refusal::Refusal;
 use store_reads::Part;
 
-// Where a component's bytes are, or why there are none.
-fn part(cache: Cache, bits: u64, kind: u32) -> Part {
-    let generations = cache.generations;
-    let archetypes = cache.archetypes;
-    let indices = cache.indices;
-    let pending = cache.pending;
-    let numbers = cache.numbers;
-    let counts = cache.counts;
-    let bytes = cache.bytes;
-    let words = cache.words;
-    store_reads::read(
-        cache.head,
-        &ROWS,
-        &WIDTHS,
-        &TYPES,
-        &SIZES,
-        &generations,
-        &archetypes,
-        &indices,
-        &pending,
-        &numbers,
-        &counts,
-        &bytes,
-        &words,
-        bits,
-        kind,
-    )
+// What a component says, or why there is none.
+enum Read {
+    Value(u64),
+    Refused(Refusal),
 }
 
-fn byte(part: &[u8], at: usize) -> u8 {
-    if at < part.len() {
-        return part[at];
+// A byte of a component, or 0 past its end.
+fn byte(bytes: [u8; BYTES], start: usize, size: usize, k: usize) -> u8 {
+    if size <= k {
+        return 0;
     }
-    0
+    if BYTES <= start {
+        return 0;
+    }
+    if BYTES - start <= k {
+        return 0;
+    }
+    bytes[start + k]
 }
 
 // The first two bytes, little-endian: every number of this program is below 65,536.
-fn value(cache: Cache, bits: u64, kind: u32) -> u64 {
+fn value(bytes: [u8; BYTES], start: usize, size: usize) -> u64 {
+    let low = byte(bytes, start, size, 0) as u64;
+    let high = byte(bytes, start, size, 1) as u64;
+    high << 8 | low
+}
+
+fn reading(cache: Cache, bits: u64, kind: u32) -> Read {
     let generations = cache.generations;
     let archetypes = cache.archetypes;
     let indices = cache.indices;
@@ -57,7 +49,7 @@ fn value(cache: Cache, bits: u64, kind: u32) -> u64 {
     let counts = cache.counts;
     let bytes = cache.bytes;
     let words = cache.words;
-    let part = store_reads::read_bytes(
+    match store_reads::read(
         cache.head,
         &ROWS,
         &WIDTHS,
@@ -73,10 +65,10 @@ fn value(cache: Cache, bits: u64, kind: u32) -> u64 {
         &words,
         bits,
         kind,
-    );
-    let low = byte(part, 0) as u64;
-    let high = byte(part, 1) as u64;
-    high << 8 | low
+    ) {
+        Part::At(start, size) => Read::Value(value(bytes, start, size)),
+        Part::Refused(r) => Read::Refused(r),
+    }
 }
 
 fn place(cache: Cache, bits: u64) -> Found {
@@ -116,27 +108,27 @@ fn word_of(verdict: u64) {
 
 // The verdict in a word, or the refusal of the read.
 pub fn verdict(cache: Cache, bits: u64) {
-    match part(cache, bits, VERDICT) {
-        Part::At(start, size) => word_of(value(cache, bits, VERDICT)),
-        Part::Refused(r) => say::refused(r),
+    match reading(cache, bits, VERDICT) {
+        Read::Value(v) => word_of(v),
+        Read::Refused(r) => say::refused(r),
     }
     say::text(b"\n");
 }
 
 // A cost or a key, or the refusal of the read.
 pub fn component(cache: Cache, bits: u64, kind: u32) {
-    match part(cache, bits, kind) {
-        Part::At(start, size) => say::number(value(cache, bits, kind)),
-        Part::Refused(r) => say::refused(r),
+    match reading(cache, bits, kind) {
+        Read::Value(v) => say::number(v),
+        Read::Refused(r) => say::refused(r),
     }
     say::text(b"\n");
 }
 
 // A label and the number, where the component is held.
 fn held(cache: Cache, bits: u64, kind: u32, label: &[u8]) {
-    if let Part::At(start, size) = part(cache, bits, kind) {
+    if let Read::Value(v) = reading(cache, bits, kind) {
         say::text(label);
-        say::number(value(cache, bits, kind));
+        say::number(v);
     }
 }
 
@@ -159,9 +151,9 @@ pub fn candidate(cache: Cache, bits: u64) {
     placed(cache, bits);
     held(cache, bits, COST, b"  cost ");
     held(cache, bits, KEY, b"  key ");
-    if let Part::At(start, size) = part(cache, bits, VERDICT) {
+    if let Read::Value(v) = reading(cache, bits, VERDICT) {
         say::text(b"  ");
-        word_of(value(cache, bits, VERDICT));
+        word_of(v);
     }
     say::text(b"\n");
 }
