@@ -46,10 +46,14 @@ fn step_reserve_many(t: &mut Tables, n: u64) -> (Vec<u32>, u32, u32) {
     (part, start as u32, end as u32)
 }
 
+/// The positions max(c-n,0)..max(c,0).
+fn reserve_positions(t: &Tables, n: u64) -> std::ops::Range<usize> {
+    (cursor(t) - i128::from(n)).max(0) as usize..free_end(t)
+}
+
 /// pending[max(c-n,0)..max(c,0)].
 fn reserve_part(t: &Tables, n: u64) -> &[u32] {
-    let from = (cursor(t) - i128::from(n)).max(0) as usize;
-    &t.pending[from..free_end(t)]
+    &t.pending[reserve_positions(t, n)]
 }
 
 /// The last min(n, pending) entries of the pending list.
@@ -183,8 +187,10 @@ pub fn reserve_entities(t: &mut Tables, n: u64, out: &mut [u64]) -> Answer<()> {
 
 /// The reader of reserved handles (01, What must change shape). It holds the
 /// part of the pending list and the new range; `position` and `next` advance.
+/// `start` says where in the pending table the part stood; no step needs it.
 #[derive(Clone, Debug, PartialEq, Eq)]
 pub struct ReserveReader {
+    pub start: usize,
     pub part: Vec<u32>,
     pub position: usize,
     pub next: u32,
@@ -196,8 +202,10 @@ pub fn reserve_reader(t: &mut Tables, n: u64) -> Answer<ReserveReader> {
     entry(t, true)?; // 12, 13, 1
     refuse_if(room(t) < i128::from(n), 4)?; // 01 table, 4; R31
     refuse_if(any_damaged_pending(t, reserve_part(t, n)), 1)?; // 01 Damage; R10
+    let start = reserve_positions(t, n).start;
     let (part, next, new_end) = step_reserve_many(t, n);
     Ok(ReserveReader {
+        start,
         part,
         position: 0,
         next,
@@ -221,6 +229,18 @@ pub fn reserve_reader_step(reader: &mut ReserveReader, generations: &[u32]) -> A
     } else {
         Ok(None)
     }
+}
+
+/// How many handles the reader has left: of its part of the pending list, and
+/// of the new range (OPEN.md, 21).
+pub fn reserve_reader_len(reader: &ReserveReader) -> u64 {
+    left(reader.position as u64, reader.part.len() as u64)
+        + left(reader.next.into(), reader.new_end.into())
+}
+
+/// How many are left of a range that has come to `at`; none past its end.
+fn left(at: u64, end: u64) -> u64 {
+    end.saturating_sub(at)
 }
 
 /// Makes one number live at the given place and answers its handle.
@@ -295,6 +315,11 @@ pub fn alloc_many_next(state: &mut AllocManyState, pending: &[u32]) -> Answer<Op
     } else {
         Ok(None)
     }
+}
+
+/// How many numbers the walk has left: positions, then new numbers (OPEN.md, 21).
+pub fn alloc_many_len(state: &AllocManyState) -> u64 {
+    left(state.position, state.end) + left(state.next.into(), state.new_end.into())
 }
 
 /// Makes a chosen handle live at the given place. Answers the old place of a

@@ -244,6 +244,7 @@ fn every_call_answers_on_any_tables() {
                 new_end: rng.below(9) as u32,
             },
             reader: ReserveReader {
+                start: 0,
                 part: vec![odd(&mut rng), 2],
                 position: rng.below(4) as usize,
                 next: rng.below(9) as u32,

@@ -182,9 +182,14 @@ fn k9_alloc_many() {
 fn k9_alloc_many_with_new_numbers() {
     let mut t = six_pending();
     let mut state = ids::alloc_many(&mut t, 8, 2, 5).unwrap();
+    let mut lengths = Vec::new();
     let walked: Vec<_> = (0..9)
-        .map(|_| ids::alloc_many_next(&mut state, &t.pending))
+        .map(|_| {
+            lengths.push(ids::alloc_many_len(&state));
+            ids::alloc_many_next(&mut state, &t.pending)
+        })
         .collect();
+    assert_eq!(lengths, [8, 7, 6, 5, 4, 3, 2, 1, 0]);
     let expected = [5, 3, 0, 1, 4, 2, 6, 7].map(|n| Ok(Some(n)));
     assert_eq!(walked[..8], expected);
     assert_eq!(walked[8], Ok(None));
@@ -291,9 +296,11 @@ fn reader_agrees_with_batch() {
         ids::reserve_entities(&mut a, n as u64, &mut out).unwrap();
         let mut reader = ids::reserve_reader(&mut b, n as u64).unwrap();
         assert_eq!(a, b);
-        for &bits in &out {
+        for (k, &bits) in out.iter().enumerate() {
+            assert_eq!(ids::reserve_reader_len(&reader), (n - k) as u64);
             assert_eq!(ids::reserve_reader_step(&mut reader, &b.generations), Ok(Some(bits)));
         }
+        assert_eq!(ids::reserve_reader_len(&reader), 0);
         let end = reader.clone();
         assert_eq!(ids::reserve_reader_step(&mut reader, &b.generations), Ok(None));
         assert_eq!(reader, end);
