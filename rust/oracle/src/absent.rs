@@ -58,8 +58,10 @@ driver! { Ids, new(tables: &IdTables),
     dump(&self, into: &mut IdTables) -> ();
     reserve_entity(&mut self) -> Said<u64>;
     reserve_entities(&mut self, n: u32) -> Said<Vec<u64>>;
+    reserve_walk(&mut self, n: u32) -> Said<Walk>;
     alloc(&mut self, at: Place) -> Said<u64>;
     alloc_many(&mut self, n: u32, archetype: u32, first_row: u32) -> Said<Batch>;
+    alloc_many_walk(&mut self, n: u32, archetype: u32, first_row: u32) -> Said<Walk>;
     alloc_at(&mut self, bits: u64, at: Place) -> Said<Option<Place>>;
     free(&mut self, bits: u64) -> Said<Place>;
     contains(&self, bits: u64) -> Said<bool>;

@@ -3,7 +3,7 @@
 use crate::entities::open;
 use crate::entities::{Entities, Entity, Location};
 use crate::panics::{caught, mapped, must_speak};
-use crate::{Batch, Head, IdTables, No, Place, Said, MAX};
+use crate::{Batch, Head, IdTables, No, Place, Said, Stand, Walk, MAX};
 
 const UNFLUSHED: &[(&str, u32)] = &[("flush() needs to be called", 3)];
 const OUT_OF_RANGE: &[(&str, u32)] = &[("entity id is out of range", 2)];
@@ -25,6 +25,20 @@ fn location(p: Place) -> Location {
 
 fn place(l: Location) -> Place {
     Place { archetype: l.archetype, index: l.index }
+}
+
+/// Steps until none was given twice. A step tells where it stands, and gives something if asked to.
+fn walked(mut step: impl FnMut(bool) -> (Stand, Option<u64>)) -> Walk {
+    let mut walk = Walk { stands: Vec::new(), given: Vec::new() };
+    loop {
+        let ended = walk.given.ends_with(&[None, None]);
+        let (stand, given) = step(!ended);
+        walk.stands.push(stand);
+        if ended {
+            return walk;
+        }
+        walk.given.push(given);
+    }
 }
 
 impl Ids {
@@ -101,6 +115,20 @@ impl Ids {
         })
     }
 
+    /// `reserve_entities`, and its iterator walked: handles.
+    pub fn reserve_walk(&mut self, n: u32) -> Said<Walk> {
+        self.fits(n as i64)?;
+        mapped(&[], || {
+            let mut reader = self.inner.reserve_entities(n);
+            walked(|steps| {
+                let (positions, fresh) = open::reading(&self.inner, &reader);
+                let stand = Stand { positions, fresh, len: reader.len() };
+                let given = if steps { reader.next() } else { None };
+                (stand, given.map(|e| e.to_bits().get()))
+            })
+        })
+    }
+
     /// The place is written right after the original's `alloc`, as `World` does.
     pub fn alloc(&mut self, at: Place) -> Said<u64> {
         if self.flushed() {
@@ -112,23 +140,35 @@ impl Ids {
         Ok(e.to_bits().get())
     }
 
-    /// `alloc_many`, a walk over its state, `finish_alloc_many`.
+    /// What a walk over the state of an `alloc_many` gave, from where it began.
     pub fn alloc_many(&mut self, n: u32, archetype: u32, first_row: u32) -> Said<Batch> {
+        let Walk { stands, given } = self.alloc_many_walk(n, archetype, first_row)?;
+        let Stand { positions, fresh, len } = stands[0].clone();
+        assert_eq!(len, n as usize);
+        let numbers = given.into_iter().flatten().map(|number| number as u32).collect();
+        Ok(Batch { numbers, positions, fresh })
+    }
+
+    /// `alloc_many`, its state walked, `finish_alloc_many`: numbers.
+    pub fn alloc_many_walk(&mut self, n: u32, archetype: u32, first_row: u32) -> Said<Walk> {
         if self.flushed() {
             Self::indexes(n as i64, first_row)?;
             self.fits(n as i64)?;
         }
-        let state = mapped(UNFLUSHED, || self.inner.alloc_many(n, archetype, first_row))?;
-        let positions = state.pending_end..self.inner_pending();
-        let fresh = open::fresh(&state);
-        let numbers = caught(|| {
-            let mut walker = state.clone();
-            assert_eq!(walker.len(&self.inner), n as usize);
-            core::iter::from_fn(|| walker.next(&self.inner)).collect()
+        let mut state = mapped(UNFLUSHED, || self.inner.alloc_many(n, archetype, first_row))?;
+        let end = state.pending_end;
+        let walk = caught(|| {
+            walked(|steps| {
+                let positions = state.pending_end..self.inner_pending();
+                let len = state.len(&self.inner);
+                let stand = Stand { positions, fresh: open::fresh(&state), len };
+                let given = if steps { state.next(&self.inner) } else { None };
+                (stand, given.map(u64::from))
+            })
         })
         .map_err(No::Panicked)?;
-        self.inner.finish_alloc_many(state.pending_end);
-        Ok(Batch { numbers, positions, fresh })
+        self.inner.finish_alloc_many(end);
+        Ok(walk)
     }
 
     fn inner_pending(&self) -> usize {

@@ -86,6 +86,25 @@ impl IdTables {
     }
 }
 
+/// Where a walk of the original stands, before a step.
+#[derive(Clone, Debug, PartialEq, Eq)]
+pub struct Stand {
+    /// The positions of the pending table that it has left.
+    pub positions: Range<usize>,
+    /// The new numbers that it has left.
+    pub fresh: Range<u32>,
+    /// How many that are, as the original's own `len` says.
+    pub len: usize,
+}
+
+/// A walk of the original, step by step: `given[i]` is what the step from
+/// `stands[i]` to `stands[i + 1]` gave. The last two steps gave none.
+#[derive(Clone, Debug, PartialEq, Eq)]
+pub struct Walk {
+    pub stands: Vec<Stand>,
+    pub given: Vec<Option<u64>>,
+}
+
 /// What an `alloc_many` gave: the numbers in the order of their rows, and its
 /// state before the first step.
 #[derive(Clone, Debug, PartialEq, Eq)]

@@ -180,6 +180,49 @@ mod on_the_original {
         assert_eq!(past.head(), Head { used: 7, pending: 0, cursor: 0, live: 7 });
     }
 
+    /// K5 and K9 as the original's own walks give them: at each step where it stands, how many are
+    /// left, and what it gives; at the end none, twice, and it stays.
+    #[test]
+    fn k5_and_k9_step_by_step() {
+        let stand = |positions, fresh, len| Stand { positions, fresh, len };
+        let mut reserved = started(6, 2, &[5, 3, 0, 1, 4, 2], 2);
+        let walk = reserved.reserve_walk(4).unwrap();
+        assert_eq!(
+            walk.given,
+            [Some(bits(5, 2)), Some(bits(3, 2)), Some(bits(6, 1)), Some(bits(7, 1)), None, None]
+        );
+        let stands = [
+            stand(0..2, 6..8, 4),
+            stand(1..2, 6..8, 3),
+            stand(2..2, 6..8, 2),
+            stand(2..2, 7..8, 1),
+            stand(2..2, 8..8, 0),
+            stand(2..2, 8..8, 0),
+            stand(2..2, 8..8, 0),
+        ];
+        assert_eq!(walk.stands, stands);
+        assert_eq!(reserved.head().cursor, -2);
+        // where no new number is taken the original's new range is 0 to 0
+        let mut free = started(6, 2, &[5, 3, 0, 1, 4, 2], 6);
+        assert_eq!(free.reserve_walk(1).unwrap().stands[0], stand(5..6, 0..0, 1));
+        assert_eq!(free.reserve_walk(16), Err(No::Outside(4)));
+
+        let mut many = started(5, 2, &[4, 1, 3], 3);
+        let walk = many.alloc_many_walk(4, 1, 10).unwrap();
+        assert_eq!(walk.given, [Some(4), Some(1), Some(3), Some(5), None, None]);
+        let stands = [
+            stand(0..3, 5..6, 4),
+            stand(1..3, 5..6, 3),
+            stand(2..3, 5..6, 2),
+            stand(3..3, 5..6, 1),
+            stand(3..3, 6..6, 0),
+            stand(3..3, 6..6, 0),
+            stand(3..3, 6..6, 0),
+        ];
+        assert_eq!(walk.stands, stands);
+        assert_eq!(many.head(), Head { used: 6, pending: 0, cursor: 0, live: 6 });
+    }
+
     #[test]
     fn k10_remove_rows() {
         let d = Declaration::of(&[(0, &[]), (4, &[(3, 2), (9, 0), (11, 1)])]);

@@ -77,3 +77,13 @@ pub(crate) fn waiting(e: &Entities) -> &[u32] {
 pub(crate) fn fresh(state: &AllocManyState) -> Range<u32> {
     state.fresh.clone()
 }
+
+/// Where a reader of reserved handles stands: positions of the pending list, and new numbers.
+pub(crate) fn reading(
+    e: &Entities,
+    reader: &ReserveEntitiesIterator<'_>,
+) -> (Range<usize>, Range<u32>) {
+    let left = reader.id_iter.as_slice();
+    let start = (left.as_ptr() as usize - e.pending.as_ptr() as usize) / size_of::<u32>();
+    (start..start + left.len(), reader.id_range.clone())
+}
