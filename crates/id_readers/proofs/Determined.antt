@@ -80,6 +80,9 @@ reserve-next part position number end generations r r′ d e =
     let p = sole nextOf entity-tells (r .next) (r′ .next) d e in
     λ i. record { next = p .0 i; position = p .1 i .position; number = p .1 i .number }
 
+pub reserve-len : (part : List ℕ) (position number end : ℕ) (r r′ : ℕ) → r ≡ leftIn (readerAt part position number end) → r′ ≡ leftIn (readerAt part position number end) → r ≡ r′
+reserve-len part position number end r r′ d e = d ∙ sym e
+
 -- the state
 module _ (w : AllocManyState) (pending : List ℕ) where
   pub alloc-many-step : (r r′ : NumberStep) → Did (walking w pending) w (numberedOf (r .next)) (r .state) → Did (walking w pending) w (numberedOf (r′ .next)) (r′ .state) → r ≡ r′

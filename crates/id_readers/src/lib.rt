@@ -11,6 +11,7 @@ pub use reader::reserve_next;
 pub use spans::EntityStep;
 pub use spans::NextEntity;
 pub use spans::Span;
+pub use spans::reserve_len;
 pub use spans::reserve_span;
 pub use state::NextNumber;
 pub use state::NumberStep;

@@ -1,8 +1,8 @@
 // The reader of a reservation. Each function takes it apart and leaves the work to a function on the slice and the positions.
 use crate::spans::EntityStep;
 use crate::spans::NextEntity;
-use crate::spans::left_at;
 use crate::spans::part_of;
+use crate::spans::reserve_len;
 use crate::spans::reserve_span;
 use crate::spans::step_at;
 use id_tables::Done;
@@ -83,7 +83,7 @@ impl<'a> ReserveEntitiesIterator<'a> {
     pub fn len(self) -> usize
         ensures { λ r. ⌜ r ≡ leftIn (readerOf (self .entry)) ⌝ }
     {
-        left_at(self.recycled, self.position, self.number, self.end)
+        reserve_len(self.recycled, self.position, self.number, self.end)
     }
 }
 

@@ -182,9 +182,9 @@ pub(crate) fn step_at(
     stepped(NextEntity::Done, position, number)
 }
 
-// How many handles are left from a position on.
-pub(crate) fn left_at(part: &[u32], position: usize, number: u32, end: u32) -> usize
-    ensures { λ r. ⌜ r ≡ leftIn (readerAt (now (part .entry)) position number end) ⌝ }
+// How many handles the reader of a part has left, for callers that hold the part and the positions themselves.
+pub fn reserve_len(recycled: &[u32], position: usize, number: u32, end: u32) -> usize
+    ensures { λ r. ⌜ r ≡ leftIn (readerAt (now (recycled .entry)) position number end) ⌝ }
 {
-    minus(part.len(), position) + minus(end as usize, number as usize)
+    minus(recycled.len(), position) + minus(end as usize, number as usize)
 }
