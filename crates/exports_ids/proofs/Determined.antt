@@ -3,7 +3,7 @@
 use Prim.Native.Nat.{ℕ}
 use mathlib.Core.Path.{_≡_, ap}
 use mathlib.Core.List.{List}
-use Rattle.refusal.specs.Table.{Answer}
+use Rattle.refusal.specs.Table.{Answer, granted}
 use Rattle.handle.specs.declared.Place.{Place}
 use Rattle.handle.specs.Bits.{fromBits, newHandle}
 use Rattle.borrow_word.specs.Word.{sharedWord, uniqueWord, releasedWord, uniqueReleasedWord}
@@ -16,12 +16,14 @@ use Rattle.ids.specs.AllocAt.{allocatingAt}
 use Rattle.ids.specs.Free.{freeing}
 use Rattle.id_batches.specs.declared.many.AllocManyState.{AllocManyState}
 use Rattle.id_batches.specs.Reserve as batch
-use Rattle.id_batches.specs.AllocMany.{allocatingMany, walking}
+use Rattle.id_batches.specs.AllocMany.{allocatingMany, walking, leftIn as numbersLeft}
 use Rattle.id_batches.specs.Flush.{flushing}
 use Rattle.id_batches.specs.Freelist.{listing}
+use Rattle.id_readers.specs.Reader.{readerAt, stepping, leftIn}
 use Rattle.crossing.specs.Words.{headOf}
 use Rattle.crossing.specs.Answers.{Crossed, Passed, four, numberFour, yesFour, placeFour, oldPlaceFour, maybeFour}
 use Rattle.crossing.proofs.Sole.{Four, heads-one, Only, only, crossed-one, passed-one, CrossedIds, crossed-ids-one, PassedIds, passed-ids-one, CrossedAny, crossed-any, PassedAny, passed-any}
+use Rattle.exports_ids.specs.Span.{spanFour, reservingSpan}
 use Rattle.exports_ids.specs.State.{stateFour, stateIn}
 use Rattle.exports_ids.specs.Words.{inPlace, halvesFour}
 
@@ -117,3 +119,15 @@ verdict-ids-freelist s handles = crossed-any numberFour (listing s handles) hand
 pub verdict-ids-alloc-many-next : (w : AllocManyState) (pending : List ℕ) (r r′ : ℕ) (o o′ : List ℕ) (a b c d a′ b′ c′ d′ : ℕ) → Crossed maybeFour (walking w pending) w r o (stateIn (four a b c d))
     → Crossed maybeFour (walking w pending) w r′ o′ (stateIn (four a′ b′ c′ d′)) → (r ≡ r′) × (o ≡ o′) × (four a b c d ≡ four a′ b′ c′ d′)
 verdict-ids-alloc-many-next w pending r r′ o o′ a b c d a′ b′ c′ d′ x y = let q = crossed-one x y in (q .0, q .1, states-one a b c d a′ b′ c′ d′ (q .2))
+
+pub verdict-ids-alloc-many-len : (w : AllocManyState) → Only numberFour (granted (numbersLeft w))
+verdict-ids-alloc-many-len w = only numberFour (granted (numbersLeft w))
+
+pub verdict-ids-reserve-span : (s : Ids) (n : ℕ) → CrossedIds spanFour (reservingSpan s n) s
+verdict-ids-reserve-span s n = crossed-ids-one spanFour (reservingSpan s n) s
+
+pub verdict-ids-reserve-next : (part : List ℕ) (position number end : ℕ) (generations : List ℕ) → CrossedAny maybeFour (stepping (readerAt part position number end) generations) (readerAt part position number end)
+verdict-ids-reserve-next part position number end generations = crossed-any maybeFour (stepping (readerAt part position number end) generations) (readerAt part position number end)
+
+pub verdict-ids-reserve-len : (part : List ℕ) (position number end : ℕ) → Only numberFour (granted (leftIn (readerAt part position number end)))
+verdict-ids-reserve-len part position number end = only numberFour (granted (leftIn (readerAt part position number end)))

@@ -3,20 +3,15 @@ use crossing::counted;
 use crossing::done;
 use crossing::head_of;
 use crossing::put_head;
-use crossing::refuse;
-use crossing::store;
-use handle::Number;
 use handle::Row;
-use id_batches::AllocManyState;
 use id_batches::AllocedMany;
-use id_batches::Walked;
 ghost use mathlib.Core.Path.{_≡_};
 ghost use Rattle.id_batches.specs.Reserve.{reserving};
-ghost use Rattle.id_batches.specs.AllocMany.{allocatingMany, allocedOf, headAfterMany, walking, walkedOf, stateAfter};
+ghost use Rattle.id_batches.specs.AllocMany.{allocatingMany, allocedOf, headAfterMany};
 ghost use Rattle.id_batches.specs.Flush.{flushing};
 ghost use Rattle.id_batches.specs.Freelist.{listing};
-ghost use Rattle.exports_ids.specs.State.{stateFour, stateIn};
-ghost use Rattle.crossing.specs.Answers.{Told, Crossed, Passed, numberFour, maybeFour};
+ghost use Rattle.exports_ids.specs.State.{stateFour};
+ghost use Rattle.crossing.specs.Answers.{Told, Crossed, Passed, numberFour};
 ghost use Rattle.id_tables.specs.Ids.{idsOf};
 ghost use Rattle.crossing.specs.Words.{headOf};
 
@@ -35,48 +30,6 @@ fn alloced_many(words: &mut [u64; 4], out: &mut [u32; 4], answer: AllocedMany) -
             0
         }
     }
-}
-
-fn state_of(words: &[u32; 4]) -> AllocManyState
-    ensures { λ r. ⌜ r ≡ stateIn (now (words .entry)) ⌝ }
-{
-    AllocManyState {
-        position: words[0],
-        top: words[1],
-        number: words[2],
-        end: words[3],
-    }
-}
-
-fn walked(words: &mut [u32; 4], out: &mut [u64; 4], answer: Walked) -> u32
-    ensures { λ r. ⌜ (Told maybeFour (walkedOf answer) r (now (out .exit))) × (stateIn (now (words .exit)) ≡ stateAfter (stateIn (now (words .entry))) answer) ⌝ }
-{
-    match answer {
-        Walked::Refused(r) => refuse(out, r),
-        Walked::Done => {
-            store(out, 0, 0, 0);
-            0
-        }
-        Walked::Number(number, state) => {
-            *words = [state.position, state.top, state.number, state.end];
-            store(out, 1, number.0 as u64, 0);
-            0
-        }
-    }
-}
-
-// A step of the walk over the numbers of an `alloc_many`. Out: 1 and the number, or 0 after the last.
-#[no_mangle]
-pub extern "C" fn verdict_ids_alloc_many_next(
-    state: &mut [u32; 4],
-    pending: &[u32],
-    out: &mut [u64; 4],
-) -> u32
-    ensures { λ r. ⌜ Crossed maybeFour (walking (stateIn (now (state .entry))) (now (pending .entry))) (stateIn (now (state .entry))) r (now (out .exit)) (stateIn (now (state .exit))) ⌝ }
-{
-    let from = state_of(state);
-    let answer = from.next(pending);
-    walked(state, out, answer)
 }
 
 // hecs's `reserve_entities`: n handles into the front of `handles`.

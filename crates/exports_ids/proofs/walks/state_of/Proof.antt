@@ -2,8 +2,8 @@
 -- Assumes nothing.
 use borrow.Author.Needs.{needs}
 use Rattle.exports_ids.proofs.Laws.{state-read}
-use Rattle.exports_ids.proofs.batches.state_of.Statement.{statement}
-use Rattle.exports_ids.proofs.batches.state_of.Tie as tie
+use Rattle.exports_ids.proofs.walks.state_of.Statement.{statement}
+use Rattle.exports_ids.proofs.walks.state_of.Tie as tie
 
 returns : tie.Need-returns
 returns c = state-read _
