@@ -48,7 +48,7 @@ pub fn head_words(h: Head) -> [u64; 4] {
 }
 
 /// The head and the four tables, before and after.
-fn tables(e: Exchange, before: &IdTables, after: &IdTables) -> Exchange {
+pub fn tables(e: Exchange, before: &IdTables, after: &IdTables) -> Exchange {
     e.array("head", &head_words(before.head), &head_words(after.head))
         .slice("generations", &before.generations, &after.generations)
         .slice("archetypes", &before.archetypes, &after.archetypes)

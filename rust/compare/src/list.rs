@@ -9,7 +9,7 @@
 
 use crate::ours::{Exchange, CALLS};
 use crate::tables::{damage_within, sound_of};
-use crate::{columns, ids, store};
+use crate::{columns, ids, store, walks};
 use oracle::calls::{ColumnCall, IdCall, Original, Player, WordCall};
 use oracle::sequences::{column_call, column_tables, id_call, id_tables, some_word, Rng, WORDS};
 use oracle::{bits, place, ColumnTables, Columns, IdTables, Ids, No, Place, NOWHERE};
@@ -346,8 +346,9 @@ pub fn write(seed: u64) -> (String, String) {
         let _ = writeln!(told, "answer {answer}: {n}");
     }
     told.push_str("differing: 0\n");
-    let missing: Vec<_> =
-        (4..CALLS.len() as u64).filter(|i| !list.calls.contains_key(&(i + 2))).collect();
+    // the calls of the run `walks`, which come last, lend a reader that no line of the list can hold
+    let listed = 4..CALLS.len() - walks::CALLS;
+    let missing: Vec<_> = listed.filter(|i| !list.calls.contains_key(&(*i as u64 + 2))).collect();
     assert!(missing.is_empty(), "calls that are not in the list: {missing:?}");
     (list.text, told)
 }

@@ -2,12 +2,12 @@
 //!
 //!     compare                         all runs, a million calls and more
 //!     compare short                   the same with fewer calls
-//!     compare words|ids|columns|store [SEED [COUNT]]
+//!     compare words|ids|columns|store|walks [SEED [COUNT]]
 //!     compare replay FILE             a call that was answered otherwise, once more
 //!     compare list [SEED]             writes the fixed list of the program `replay` and what it is to print
 //!
 //! `words`, `ids` and `columns` are held to the original (hecs 0.11.2, which
-//! HECS_SRC gives at build time), `store` to the second program. The same seed
+//! HECS_SRC gives at build time), `store` to the second program, `walks` to both. The same seed
 //! and count make the same calls. A run ends with a table of what it did; it
 //! fails at the first difference, whose call it writes as a script for
 //! `replay`, or where a call or one of its refusal numbers never occurred.
@@ -20,6 +20,7 @@ mod ours;
 mod store;
 mod tables;
 mod tally;
+mod walks;
 mod words;
 
 use ours::{Difference, Ours};
@@ -29,11 +30,12 @@ use tally::Tally;
 const SEED: u64 = 20_261_115;
 
 /// The runs, and how many calls each makes in a default and in a short run.
-const RUNS: [(&str, u64, u64); 4] = [
+const RUNS: [(&str, u64, u64); 5] = [
     ("words", 300_000, 3_000),
     ("ids", 400_000, 12_000),
     ("columns", 300_000, 6_000),
     ("store", 600_000, 100_000),
+    ("walks", 400_000, 20_000),
 ];
 
 fn run(ours: &mut Ours, name: &str, seed: u64, count: u64) -> Result<(), String> {
@@ -45,6 +47,7 @@ fn run(ours: &mut Ours, name: &str, seed: u64, count: u64) -> Result<(), String>
         "words" => (words::run(ours, &mut tally, seed, count), words::WANTED.to_vec()),
         "ids" => (ids::run(ours, &mut tally, seed, count), ids::WANTED.to_vec()),
         "columns" => (columns::run(ours, &mut tally, seed, count), columns::WANTED.to_vec()),
+        "walks" => (walks::run(ours, &mut tally, seed, count), walks::WANTED.to_vec()),
         _ => (store::run(ours, &mut tally, seed, count), store::wanted()),
     };
     if let Err(Difference { words, script }) = done {
@@ -144,6 +147,6 @@ fn main() {
 }
 
 fn usage() -> ! {
-    eprintln!("usage: compare [short | words|ids|columns|store [SEED [COUNT]] | replay FILE | list [SEED]]");
+    eprintln!("usage: compare [short | words|ids|columns|store|walks [SEED [COUNT]] | replay FILE | list [SEED]]");
     exit(2)
 }

@@ -59,6 +59,10 @@ pub const CALLS: &[&str] = &[
     "verdict_store_reserve_entities",
     "verdict_store_freelist",
     "verdict_store_clear",
+    "verdict_ids_reserve_span",
+    "verdict_ids_reserve_next",
+    "verdict_ids_reserve_len",
+    "verdict_ids_alloc_many_len",
 ];
 
 /// A number of a table.

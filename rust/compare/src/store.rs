@@ -166,7 +166,7 @@ fn row_tables(e: Exchange, b: &Tables, a: &Tables) -> Exchange {
 }
 
 /// What a call is lent, before and after, by the layer that its name tells.
-fn lent(name: &'static str, code: u32, b: &Tables, a: &Tables) -> Exchange {
+pub fn lent(name: &'static str, code: u32, b: &Tables, a: &Tables) -> Exchange {
     let e = Exchange::new(name, code);
     if name.starts_with("verdict_ids") {
         return id_tables(e.array("head", &head(b), &head(a)), b, a);
@@ -272,7 +272,8 @@ fn answered(kind: &str, t: &Tables, x: &Arguments) -> Answered {
     Answered { code, out, after: a, arguments: y }
 }
 
-fn state(s: &ids::AllocManyState) -> [u32; 4] {
+/// A walking state as it crosses.
+pub fn state(s: &ids::AllocManyState) -> [u32; 4] {
     [s.position as u32, s.end as u32, s.next, s.new_end]
 }
 
