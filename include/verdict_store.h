@@ -168,6 +168,30 @@ uint32_t verdict_ids_reserve_entities(
     const uint32_t *indices, size_t indices_count, const uint32_t *pending, size_t pending_count,
     size_t n, uint64_t *handles, size_t handles_count);
 
+/* The same reservation without an output, for a caller that walks its handles one by one. Out:
+   from and to, positions of the pending list, and from and to, new numbers; none are taken
+   where two are equal. The walk is lent the part of the pending list from the one position
+   to the other, and begins at position 0 of it and the first new number; a step gives what
+   the part holds when it is asked. Refusals: 12, 13, 1, 4, 1. */
+uint32_t verdict_ids_reserve_span(
+    uint64_t head[4], const uint32_t *generations, size_t generations_count,
+    const uint32_t *archetypes, size_t archetypes_count,
+    const uint32_t *indices, size_t indices_count, const uint32_t *pending, size_t pending_count,
+    size_t n, uint64_t out[4]);
+
+/* A step of that walk: the number at the position with its stored generation, then the new
+   numbers up to `end` with generation 1. Out: 1 and the handle, with the position or the
+   number one further, or 0 after the last, where both stay. Refusals, for a number of the
+   part: 13 where the generations have no entry for it, 1 for a stored generation 0. */
+uint32_t verdict_ids_reserve_next(
+    const uint32_t *recycled, size_t recycled_count, size_t *position, uint32_t *number,
+    uint32_t end, const uint32_t *generations, size_t generations_count, uint64_t out[4]);
+
+/* Out: how many handles that walk has left. It is always granted. */
+uint32_t verdict_ids_reserve_len(
+    const uint32_t *recycled, size_t recycled_count, size_t position, uint32_t number,
+    uint32_t end, uint64_t out[4]);
+
 /* Makes a number live at the given place: the last free one, or a new one at generation 1.
    Out: the handle. Refusals: 12, 13, 1, 3 while numbers are reserved, 6 for the index
    UINT32_MAX, 4, 1. */
@@ -201,6 +225,10 @@ uint32_t verdict_ids_alloc_many(
    has no such position. */
 uint32_t verdict_ids_alloc_many_next(
     uint32_t state[4], const uint32_t *pending, size_t pending_count, uint64_t out[4]);
+
+/* Out: how many numbers that walk has left. It is always granted. */
+uint32_t verdict_ids_alloc_many_len(
+    const uint32_t state[4], uint64_t out[4]);
 
 /* Makes all reserved numbers live, in successive rows of an archetype from `first` on: the
    new ones ascending, then those of the pending list. Refusals: 12, 13, 1, 6, 1. */

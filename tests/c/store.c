@@ -88,6 +88,30 @@ static void borrows(void) {
     expect("no such column", verdict_store_borrow(VERDICT_STORE(&store), 1, 5), 15);
 }
 
+/* Two free numbers and a new one are reserved, and their handles walked one by one. */
+static void reservation(verdict_tables *own) {
+    uint64_t out[4];
+    size_t position = 0, again = 0, length;
+    uint32_t number, end;
+    const uint32_t *part;
+
+    expect("free 0v2", verdict_ids_free(VERDICT_IDS(own), 0x200000000, out), 0);
+    expect("free 1v1", verdict_ids_free(VERDICT_IDS(own), 0x100000001, out), 0);
+    expect("reserve", verdict_ids_reserve_span(VERDICT_IDS(own), 3, out), 0);
+    part = own->pending + out[0];
+    length = out[1] - out[0];
+    number = (uint32_t)out[2];
+    end = (uint32_t)out[3];
+    expect("how many", verdict_ids_reserve_len(part, length, position, number, end, out), 0);
+    expect("left", out[0], 3);
+    expect("no generation",
+           verdict_ids_reserve_next(part, length, &again, &number, end, NULL, 0, out), 13);
+    while (verdict_ids_reserve_next(part, length, &position, &number, end, generations, CAPACITY,
+                                    out) == 0 && out[0] == 1)
+        show(out[1]);
+    expect("at the end", position, 2);
+}
+
 /* The layers below, on tables of their own. */
 static void layers(void) {
     static verdict_tables own;
@@ -108,8 +132,11 @@ static void layers(void) {
     show(out[0]);
     expect("free", verdict_ids_free(VERDICT_IDS(&own), out[0], out), 0);
     expect("alloc many", verdict_ids_alloc_many(VERDICT_IDS(&own), 3, 1, 0, state), 0);
+    expect("how many", verdict_ids_alloc_many_len(state, out), 0);
+    expect("left", out[0], 3);
     while (verdict_ids_alloc_many_next(state, pending, CAPACITY, out) == 0 && out[0] == 1)
         printf("number %u\n", (unsigned)out[1]);
+    reservation(&own);
     expect("a handle of generation 0", verdict_ids_get(VERDICT_IDS(&own), 7, out), 5);
 
     expect("allocate", verdict_columns_allocate(VERDICT_COLUMNS(&own), 1, 6, out), 0);

@@ -97,6 +97,11 @@ calls! {
         state: &mut [u32; 4], pending: &[u32], out: &mut [u64; 4],
     );
 
+    /// hecs's `AllocManyState::len`. Out: how many numbers are left.
+    fn verdict_ids_alloc_many_len(
+        state: &[u32; 4], out: &mut [u64; 4],
+    );
+
     /// hecs's `reserve_entity`. Out: the handle.
     fn verdict_ids_reserve_entity(
         head: &mut [u64; 4], generations: &[u32], archetypes: &[u32], indices: &[u32],
@@ -107,6 +112,25 @@ calls! {
     fn verdict_ids_reserve_entities(
         head: &mut [u64; 4], generations: &[u32], archetypes: &[u32], indices: &[u32],
         pending: &[u32], n: usize, handles: &mut [u64],
+    );
+
+    /// hecs's `reserve_entities`, as a span that `verdict_ids_reserve_next` walks. Out: where its part
+    /// of the pending list begins and ends, and where its new numbers do.
+    fn verdict_ids_reserve_span(
+        head: &mut [u64; 4], generations: &[u32], archetypes: &[u32], indices: &[u32],
+        pending: &[u32], n: usize, out: &mut [u64; 4],
+    );
+
+    /// hecs's `ReserveEntitiesIterator::next`, over that part of the pending list. Out: 1 and the
+    /// handle, or 0 at the end.
+    fn verdict_ids_reserve_next(
+        recycled: &[u32], position: &mut usize, number: &mut u32, end: u32, generations: &[u32],
+        out: &mut [u64; 4],
+    );
+
+    /// hecs's `ReserveEntitiesIterator::len`. Out: how many handles are left.
+    fn verdict_ids_reserve_len(
+        recycled: &[u32], position: usize, number: u32, end: u32, out: &mut [u64; 4],
     );
 
     /// hecs's `flush`: the reserved numbers get successive rows of an archetype.
