@@ -6,11 +6,12 @@ use lib.Dec.{leb, ltb, eqb}
 use lib.ListN.{length, getD}
 use Rattle.refusal.specs.Table.{Rule, _when_, Answer, granted, refused}
 use Rattle.decl.specs.Lists.{anyBelow}
-use Rattle.decl.specs.Decl.{Decl, archetypes, firstRow}
+use Rattle.decl.specs.Decl.{Decl, archetypes, firstRow, rowsOf}
 use Rattle.decl.specs.Rules.{declRules}
 use Rattle.decl.specs.Places.{baseOf, spanned}
 use Rattle.decl.specs.declared.Span.{Span}
-use Rattle.row_step.specs.Tables.{Rows}
+use Rattle.row_step.specs.declared.Block.{Block}
+use Rattle.row_step.specs.Tables.{Rows, blockOf}
 
 -- an archetype's part of each table, all 0 where there is none
 abbrev pub spanOr : Answer Span → Span
@@ -52,3 +53,7 @@ unfoldable pub wrongSize : List ℕ → List ℕ → ℕ → ℕ → Bool
 wrongSize [] sizes t n = false
 wrongSize (x ∷ types) [] t n = false
 wrongSize (x ∷ types) (s ∷ sizes) t n = cond (eqb x t) (not (eqb s n)) (wrongSize types sizes t n)
+
+-- archetype a's part of the row tables
+abbrev pub blockIn : Decl → ℕ → Block
+blockIn d a = blockOf (firstRow d a) (rowsOf d a) (baseOf d a)

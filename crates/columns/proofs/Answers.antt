@@ -24,11 +24,12 @@ use Rattle.cells.proofs.Laws.{cell-lent, part-fits}
 use Rattle.cells.proofs.Blocks.{block-ends}
 use Rattle.row_step.specs.Tables.{Rows, tablesOf, countOf, lineIn}
 use Rattle.row_step.proofs.Held.{appended-tables}
-use Rattle.column_entry.specs.Entry.{spanIn, tableRules, countRules, entryRules, rowRules}
+use Rattle.column_entry.proofs.Widths.{line-cell, block-in}
+use Rattle.column_entry.specs.Entry.{spanIn, tableRules, countRules, entryRules, rowRules, blockIn}
 use Rattle.column_entry.specs.Kept.{Kept, Ready, There}
 use Rattle.column_entry.proofs.Keeping.{tabled, counted, ready, there, row-within}
-use Rattle.columns.specs.Calls.{blockIn, roomRules, allocateRules, allocatedIn, heldRules, removal, removedIn, widthRules, moveRules, movedOut, sizeRules, putRules, putAt, putIn, cellFor, gotIn, idsRules, idsIn, partFor}
-use Rattle.columns.proofs.Places.{line-cell, block-in, rows-in, first-told}
+use Rattle.columns.specs.Calls.{roomRules, allocateRules, allocatedIn, heldRules, removal, removedIn, widthRules, moveRules, movedOut, sizeRules, putRules, putAt, putIn, cellFor, gotIn, idsRules, idsIn, partFor}
+use Rattle.columns.proofs.Places.{rows-in, first-told}
 
 same-value : {A : Type 0} {x y : A} → granted x ≡ granted y → x ≡ y
 same-value e = cc

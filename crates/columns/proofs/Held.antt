@@ -18,10 +18,12 @@ use Rattle.cells.proofs.Laws.{Apart, length-written, cell-written, written-apar
 use Rattle.cells.proofs.Rows.{carried-apart}
 use Rattle.row_step.specs.Tables.{Rows, countOf, lastOf, lineIn}
 use Rattle.row_step.proofs.Held.{held-cell, same-or-not, appended-numbers, appended-counts, appended-bytes, removed-numbers, removed-counts, removed-bytes, removed-length, removed-held}
+use Rattle.column_entry.proofs.Widths.{line-cell, block-in}
+use Rattle.column_entry.specs.Entry.{blockIn}
 use Rattle.column_entry.specs.Kept.{Tabled, Ready, There}
 use Rattle.column_entry.proofs.Keeping.{row-within}
-use Rattle.columns.specs.Calls.{blockIn, heldAt, numberAt, appendedTo, removedFrom, writtenTo}
-use Rattle.columns.proofs.Places.{line-cell, block-in, rows-grow, rows-in}
+use Rattle.columns.specs.Calls.{heldAt, numberAt, appendedTo, removedFrom, writtenTo}
+use Rattle.columns.proofs.Places.{rows-grow, rows-in}
 
 -- two numbers: below, the same, or above
 order : {A : Type 0} (m n : ℕ) → (m < n → A) → (m ≡ n → A) → (n < m → A) → A

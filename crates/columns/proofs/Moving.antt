@@ -21,9 +21,10 @@ use Rattle.cells.proofs.Lines.{told-fits}
 use Rattle.cells.proofs.Rows.{past-line, cell-at, Within, Parted, carried-apart, carried-there, transferred-apart, transferred-there}
 use Rattle.cells.proofs.Blocks.{width-none, width-next}
 use Rattle.row_step.specs.Tables.{Rows, tablesOf, lineIn}
+use Rattle.column_entry.proofs.Widths.{firsts}
+use Rattle.column_entry.specs.Entry.{blockIn}
 use Rattle.column_entry.specs.Kept.{Kept, Tabled}
-use Rattle.columns.specs.Calls.{blockIn, heldAt}
-use Rattle.columns.proofs.Places.{firsts}
+use Rattle.columns.specs.Calls.{heldAt}
 use Rattle.columns.proofs.Held.{cells-part}
 
 -- the sizes of columns of archetype a, from column k on

@@ -24,11 +24,12 @@ use Rattle.cells.proofs.Rows.{cell-past, to-run}
 use Rattle.cells.proofs.Blocks.{block-ends, within-block}
 use Rattle.row_step.specs.Tables.{Rows, blockOf, lineIn, rowRemoved}
 use Rattle.row_step.proofs.Held.{row-removed}
-use Rattle.column_entry.specs.Entry.{spanIn}
+use Rattle.column_entry.proofs.Widths.{row-wide, line-cell, block-in}
+use Rattle.column_entry.specs.Entry.{spanIn, blockIn}
 use Rattle.column_entry.specs.Kept.{Kept, There}
-use Rattle.columns.specs.Calls.{blockIn, removal, cellFor}
+use Rattle.columns.specs.Calls.{removal, cellFor}
 use Rattle.columns.specs.Find.{cellAtColumn, cellIn}
-use Rattle.columns.proofs.Places.{row-wide, line-cell, block-in, first-told, base-told, types-part, sizes-part}
+use Rattle.columns.proofs.Places.{first-told, base-told, types-part, sizes-part}
 
 -- Remove row: the step over the archetype's own block and sizes.
 pub remove-told : (d : Decl) (w : Rows) (a r : ℕ) (t : There d w a r) (s : Span) → s ≡ spanIn d a → {x : Option ℕ × Rows}

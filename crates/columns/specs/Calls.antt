@@ -8,16 +8,15 @@ use lib.Dec.{leb, ltb, eqb}
 use lib.ListN.{length, getD}
 use Rattle.refusal.specs.Number.{numberOf}
 use Rattle.refusal.specs.Table.{Rule, _when_, Answer, granted, refused, _orElse_, _otherwise_}
-use Rattle.decl.specs.Decl.{Decl, archetypes, rowsOf, firstRow, typesOf, sizesOf, sizeOf}
-use Rattle.decl.specs.Places.{rowWidth, baseOf, cellStart}
+use Rattle.decl.specs.Decl.{Decl, archetypes, firstRow, typesOf, sizesOf, sizeOf}
+use Rattle.decl.specs.Places.{rowWidth, cellStart}
 use Rattle.decl.specs.Lookup.{columnOf}
 use Rattle.decl.specs.declared.Column.{Column}
 use Rattle.decl.specs.declared.Column.the-variants.{At, Missing}
 use Rattle.cells.specs.Cell.{cell, written}
 use Rattle.cells.specs.Line.{rowBytes}
-use Rattle.row_step.specs.declared.Block.{Block}
-use Rattle.row_step.specs.Tables.{Rows, tablesOf, blockOf, countOf, numberIn, lineIn, appended, removed, movedBy}
-use Rattle.column_entry.specs.Entry.{tableRules, countRules, entryRules, rowRules, wrongSize}
+use Rattle.row_step.specs.Tables.{Rows, tablesOf, countOf, numberIn, lineIn, appended, removed, movedBy}
+use Rattle.column_entry.specs.Entry.{tableRules, countRules, entryRules, rowRules, wrongSize, blockIn}
 use Rattle.columns.specs.declared.Allocated.{Allocated}
 use Rattle.columns.specs.declared.Allocated.the-variants as allocated
 use Rattle.columns.specs.declared.Removed.{Removed}
@@ -27,11 +26,7 @@ use Rattle.columns.specs.declared.Stored.the-variants as stored
 use Rattle.columns.specs.declared.Found.{Found}
 use Rattle.columns.specs.declared.Found.the-variants as found
 
--- archetype a's part of the tables
-abbrev pub blockIn : Decl → ℕ → Block
-blockIn d a = blockOf (firstRow d a) (rowsOf d a) (baseOf d a)
-
--- what a row of it holds in column j, and its number
+-- what a row of archetype a holds in column j, and its number
 unfoldable pub heldAt : Decl → Rows → ℕ → ℕ → ℕ → List ℕ
 heldAt d w a r j = cell (w .bytes) (cellStart d a j r) (sizeOf d a j)
 

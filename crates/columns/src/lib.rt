@@ -16,7 +16,8 @@ ghost use Rattle.decl.specs.Places.{rowWidth, baseOf};
 ghost use Rattle.decl.specs.Lookup.{columnOf};
 ghost use Rattle.row_step.specs.Tables.{tablesOf, movedOf, lineIn};
 ghost use Rattle.cells.specs.Line.{rowBytes};
-ghost use Rattle.columns.specs.Calls.{blockIn, allocatedOf, removedOf, storedOf, foundOf, allocateRules, allocatedIn, heldRules, removal, removedIn, widthRules, moveRules, movedOut, sizeRules, putRules, putIn, cellFor, gotIn, idsRules, idsIn, partFor};
+ghost use Rattle.column_entry.specs.Entry.{blockIn};
+ghost use Rattle.columns.specs.Calls.{allocatedOf, removedOf, storedOf, foundOf, allocateRules, allocatedIn, heldRules, removal, removedIn, widthRules, moveRules, movedOut, sizeRules, putRules, putIn, cellFor, gotIn, idsRules, idsIn, partFor};
 ghost use Rattle.columns.specs.Find.{cellIn};
 ghost use Rattle.column_entry.specs.Kept.{Kept, There};
 

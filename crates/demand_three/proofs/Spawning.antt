@@ -24,10 +24,10 @@ use Rattle.decl.proofs.Keeping.{sizes-length}
 use Rattle.decl.proofs.Lending.{row-width}
 use Rattle.row_step.specs.Tables.{countOf, tablesOf}
 use Rattle.row_step.proofs.Held.{appended-counts}
+use Rattle.column_entry.specs.Entry.{blockIn}
 use Rattle.store_steps.specs.Seats.{filled}
 use Rattle.store_steps.proofs.Laws.{seated-rows}
 use Rattle.store_tables.specs.Store.{Store}
-use Rattle.store_tables.specs.Rows.{blockAt}
 use Rattle.store_tables.specs.Kept.{Entered}
 use Rattle.store_spawn.specs.Spawn.{nextNumber, nextIds, withEntity, spawning}
 use Rattle.store_spawn.proofs.Laws.{SpawnOk, can-alloc}
@@ -104,7 +104,7 @@ module _ {s : Store} {n : ℕ} (r : Ready s (suc n)) where
 
   one-more : countOf (withEntity s 0 [] .rows) 0 ≡ countOf (s .rows) 0 + 1
   one-more =
-      rw (seated-rows (blockAt (s .decl) 0) (sizesOf (s .decl) 0) (s .rows) 0 (nextNumber (s .ids)) [] (spawn-ok .row-unused), appended-counts (blockAt (s .decl) 0) (tablesOf (s .rows .numbers) (s .rows .counts) (filled (blockAt (s .decl) 0) (sizesOf (s .decl) 0) (s .rows) 0 [])) 0 (nextNumber (s .ids)))
+      rw (seated-rows (blockIn (s .decl) 0) (sizesOf (s .decl) 0) (s .rows) 0 (nextNumber (s .ids)) [] (spawn-ok .row-unused), appended-counts (blockIn (s .decl) 0) (tablesOf (s .rows .numbers) (s .rows .counts) (filled (blockIn (s .decl) 0) (sizesOf (s .decl) 0) (s .rows) 0 [])) 0 (nextNumber (s .ids)))
       (getD-set-same (s .rows .counts) 0 (countOf (s .rows) 0 + 1) 0 (omega (arith, entered .rows .tabled .counts-long, shaped .some)))
 
   grown-one : Grown (s .ids) 1 (withEntity s 0 [] .ids)

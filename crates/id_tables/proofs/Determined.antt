@@ -9,6 +9,7 @@ use Rattle.refusal.specs.Table.{testOf, passing, Did}
 use Rattle.refusal.specs.Laws.{determined, sole-answer, sole}
 use Rattle.refusal.specs.Distinct.{number-inj, tested-tells}
 use Rattle.refusal.specs.declared.Tested.{Tested}
+use Rattle.handle.specs.Bits.{placeOf}
 use Rattle.handle.specs.RoundTrip.{same-handle}
 use Rattle.handle.specs.declared.Number.{Number}
 use Rattle.handle.specs.declared.Place.{Place}
@@ -28,19 +29,19 @@ use Rattle.id_tables.specs.Ids.{Ids, idsOf, capacityRules, lengthRules, 
 use Rattle.id_tables.specs.Lookup.{containing, placeGot, getting, settingPlace, resolving, counting, clearing, containedOf, foundOf, resolvedOf, countedOf, doneOf, headAfter}
 
 -- an answer of the document is that of one result
-contained-tells : (r s : Contained) → containedOf r ≡ containedOf s → r ≡ s
+pub contained-tells : (r s : Contained) → containedOf r ≡ containedOf s → r ≡ s
 contained-tells (contained.Is a) (contained.Is b) e = ap contained.Is (cc)
 contained-tells (contained.Is a) (contained.Refused y) e = cc
 contained-tells (contained.Refused x) (contained.Is b) e = cc
 contained-tells (contained.Refused x) (contained.Refused y) e = ap contained.Refused (number-inj x y (cc))
 
-found-tells : (r s : Found) → foundOf r ≡ foundOf s → r ≡ s
+pub found-tells : (r s : Found) → foundOf r ≡ foundOf s → r ≡ s
 found-tells (found.At a) (found.At b) e = ap found.At (cc)
 found-tells (found.At a) (found.Refused y) e = cc
 found-tells (found.Refused x) (found.At b) e = cc
 found-tells (found.Refused x) (found.Refused y) e = ap found.Refused (number-inj x y (cc))
 
-resolved-tells : (r s : Resolved) → resolvedOf r ≡ resolvedOf s → r ≡ s
+pub resolved-tells : (r s : Resolved) → resolvedOf r ≡ resolvedOf s → r ≡ s
 resolved-tells (resolved.Entity a) (resolved.Entity b) e = ap resolved.Entity (same-handle a b (cc))
 resolved-tells (resolved.Entity a) (resolved.Refused y) e = cc
 resolved-tells (resolved.Refused x) (resolved.Entity b) e = cc
@@ -105,6 +106,9 @@ pub put-place : (archetypes indices : List ℕ) (number : Number) (place : Place
     → (a ≡ set archetypes (number .0) (place .archetype)) × (x ≡ set indices (number .0) (place .index .0))
     → (a′ ≡ set archetypes (number .0) (place .archetype)) × (x′ ≡ set indices (number .0) (place .index .0)) → (a ≡ a′) × (x ≡ x′)
 put-place archetypes indices number place a x a′ x′ d e = (d .0 ∙ sym (e .0), d .1 ∙ sym (e .1))
+
+pub place-at : (archetypes indices : List ℕ) (number : ℕ) → Sole (placeOf (getD archetypes number 0) (getD indices number 0))
+place-at archetypes indices number = one (placeOf (getD archetypes number 0) (getD indices number 0))
 
 module _ (used : ℕ) (generations indices : List ℕ) where
   pub is-damaged : (number : ℕ) → Sole (damagedIn used generations indices number)

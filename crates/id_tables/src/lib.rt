@@ -23,6 +23,7 @@ pub use place::set_place;
 pub use tables::at;
 pub use tables::is_damaged;
 pub use tables::is_live;
+pub use tables::place_at;
 pub use tables::put;
 pub use tables::put_place;
 pub use whole::clear;

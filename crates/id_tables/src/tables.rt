@@ -3,8 +3,10 @@ use crate::head::Head;
 use handle::MAX;
 use handle::Number;
 use handle::Place;
+use handle::Row;
 ghost use mathlib.Core.Path.{_≡_};
 ghost use lib.ListN.{getD, set};
+ghost use Rattle.handle.specs.Bits.{placeOf};
 ghost use Rattle.id_tables.specs.Ids.{damagedIn, liveIn};
 
 // What stands at a position, and 0 past the end.
@@ -66,4 +68,14 @@ pub fn is_live(
         return false;
     }
     at(indices, number) != MAX
+}
+
+// The place of a number, or that of zeros past the end.
+pub fn place_at(archetypes: &[u32], indices: &[u32], number: usize) -> Place
+    ensures { λ r. ⌜ r ≡ placeOf (getD (now (archetypes .entry)) number 0) (getD (now (indices .entry)) number 0) ⌝ }
+{
+    Place {
+        archetype: at(archetypes, number),
+        index: Row(at(indices, number)),
+    }
 }

@@ -1,6 +1,5 @@
 // Free a number.
 use crate::Freed;
-use crate::place_at;
 use crate::settle;
 use handle::Bits;
 use handle::Handle;
@@ -8,6 +7,7 @@ use handle::MAX;
 use handle::Place;
 use id_tables::Head;
 use id_tables::is_live;
+use id_tables::place_at;
 use id_tables::put;
 use id_tables::tested;
 use refusal::Refusal;

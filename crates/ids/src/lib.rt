@@ -9,16 +9,14 @@ use handle::Bits;
 use handle::Handle;
 use handle::Number;
 use handle::Place;
-use handle::Row;
 use id_tables::Head;
-use id_tables::at;
 use id_tables::put;
 use id_tables::put_place;
 use refusal::Refusal;
 ghost use mathlib.Core.Path.{_≡_};
 ghost use Prim.Native.Nat.{_<_};
-ghost use lib.ListN.{getD, set};
-ghost use Rattle.handle.specs.Bits.{bitsOf, placeOf};
+ghost use lib.ListN.{set};
+ghost use Rattle.handle.specs.Bits.{bitsOf};
 ghost use Rattle.ids.specs.Answers.{giving};
 pub use give_back::free;
 pub use reserve::reserve_entity;
@@ -69,14 +67,4 @@ pub(crate) fn settle(
 {
     put(generations, number.0 as usize, generation);
     put_place(archetypes, indices, number, place);
-}
-
-// The place of a number.
-pub(crate) fn place_at(archetypes: &[u32], indices: &[u32], number: usize) -> Place
-    ensures { λ r. ⌜ r ≡ placeOf (getD (now (archetypes .entry)) number 0) (getD (now (indices .entry)) number 0) ⌝ }
-{
-    Place {
-        archetype: at(archetypes, number),
-        index: Row(at(indices, number)),
-    }
 }

@@ -1,6 +1,5 @@
 // Allocate a chosen number.
 use crate::Chosen;
-use crate::place_at;
 use crate::runs::fill;
 use crate::runs::position_of;
 use crate::runs::queue;
@@ -13,6 +12,7 @@ use handle::Place;
 use id_tables::Head;
 use id_tables::at;
 use id_tables::is_damaged;
+use id_tables::place_at;
 use id_tables::put;
 use id_tables::tested;
 use refusal::Refusal;

@@ -81,6 +81,13 @@ none-holds [] e = tt
 none-holds (n when true ∷ rest) e = absurd (not-refused e)
 none-holds (n when false ∷ rest) e = (refl, none-holds rest e)
 
+-- the first rule to refuse refuses whatever might follow
+pub stops : {A B : Type 0} {m : ℕ} (rules : List Rule) (v : A) (b : Answer B) → refused m ≡ (rules otherwise v) → (rules orElse b) ≡ refused m
+unfolding _orElse_
+stops [] v b e = absurd (not-refused (sym e))
+stops (k when true ∷ rest) v b e = cc
+stops (k when false ∷ rest) v b e = stops rest v b e
+
 -- what the tests said, once the answer has been taken apart
 pub told : {a : Answer (Unit {0})} (r t : Tested) → testOf r ≡ a → r ≡ t → testOf t ≡ a
 told r t e p = sym (ap testOf p) ∙ e

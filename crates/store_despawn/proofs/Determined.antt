@@ -6,7 +6,7 @@ use mathlib.Core.List.{List}
 use Rattle.refusal.specs.Table.{Did}
 use Rattle.refusal.specs.Laws.{determined}
 use Rattle.id_tables.specs.declared.lookup.Done.{Done}
-use Rattle.id_tables.specs.Ids.{Ids, idsOf}
+use Rattle.id_tables.specs.Ids.{idsOf}
 use Rattle.id_tables.specs.Lookup.{doneOf, headAfter}
 use Rattle.id_tables.proofs.Determined.{done-tells}
 use Rattle.row_step.specs.Tables.{Rows}

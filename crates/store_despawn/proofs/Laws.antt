@@ -2,7 +2,7 @@
 -- Assumes nothing.
 use Prim.{tt}
 use Prim.Native.Nat.{ℕ}
-use mathlib.Core.Path.{_≡_, sym, ap, _∙_}
+use mathlib.Core.Path.{_≡_, ap}
 use mathlib.Core.Bool.{true, false}
 use borrow.Author.Tests.{not-false, eqb-false, ne-eqb}
 use Rattle.refusal.specs.Table.{granted, passing, _orElse_}

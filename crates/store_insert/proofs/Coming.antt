@@ -9,7 +9,7 @@ use mathlib.Core.List.{List, [], _∷_}
 use mathlib.Core.Option.{Option, none, some}
 use lib.ListN.{length, getD, take, drop}
 use Rattle.refusal.specs.Table.{_when_, Answer, granted, refused, _orElse_, passing, Did}
-use Rattle.refusal.specs.Laws.{not-refused, grant, passed-all, none-holds, value-of}
+use Rattle.refusal.specs.Laws.{not-refused, grant, passed-all, none-holds, value-of, stops}
 use Rattle.handle.specs.declared.Place.{Place}
 use Rattle.borrow_word.specs.Slice.{anyHeld}
 use Rattle.id_tables.specs.Ids.{idsOf, placeAt}
@@ -28,11 +28,11 @@ use Rattle.cells.specs.Line.{lineOf, cellOf, pastOf, told, lineTold}
 use Rattle.cells.specs.declared.Line.{Line}
 use Rattle.cells.proofs.Laws.{written-fits}
 use Rattle.row_step.specs.Tables.{Rows, tablesOf}
-use Rattle.column_entry.specs.Entry.{wrongSize}
+use Rattle.column_entry.specs.Entry.{wrongSize, blockIn}
 use Rattle.column_entry.specs.Kept.{Kept}
 use Rattle.store_steps.specs.Seats.{seatsOf}
 use Rattle.store_tables.specs.Store.{Store, storeOf}
-use Rattle.store_tables.specs.Rows.{blockAt, archetypeOf, rowOf, owns}
+use Rattle.store_tables.specs.Rows.{archetypeOf, rowOf, owns}
 use Rattle.store_tables.specs.Kept.{Entered}
 use Rattle.store_tables.proofs.Places.{Owned, owns-means}
 use Rattle.store_reads.specs.declared.component.Cell.{Cell}
@@ -44,7 +44,7 @@ use Rattle.store_moves.specs.Steps.{movedSeats}
 use Rattle.store_moves.specs.Kept.{Moving}
 use Rattle.store_moves.proofs.Seeking.{target-means}
 use Rattle.store_moves.proofs.Targets.{before-in, wider, type-added, with-differs}
-use Rattle.store_moves.proofs.Entities.{MoveOk, move-ok, stops, into-none, into-refused, into-granted}
+use Rattle.store_moves.proofs.Entities.{MoveOk, move-ok, into-none, into-refused, into-granted}
 use Rattle.store_moves.proofs.Moving.{all-small, all-in, has-moved}
 use Rattle.store_moves.proofs.Owning.{column-in, moving}
 use Rattle.store_insert.specs.declared.Way.{Way}
@@ -127,9 +127,6 @@ over-room d k a span p t j c =
     let i = held-in d a t j k c in
     let m : span .columns ≡ widthOf d a = ap (λ (u : Span). u .columns) p in
     record { small = omega (arith, all-small d g a span p); inside = omega (arith, all-in d g a span p) }
-
-pub place-in : (d : Decl) (w : Rows) (a r b : ℕ) → Moving d w a r b → (t j : ℕ) → j ≡ typesBefore t (typesOf d a) → j ≤ widthOf d a
-place-in d w a r b m t j c = omega (arith, before-in t (typesOf d a), types-length d (m .ready .tabled .kept .declared .shaped) a)
 
 -- the component that is overwritten
 module _ (d : Decl) (k : Kept d) (a r : ℕ) (span : Span) (p : span ≡ spanOf d a) (t j : ℕ) (c : columnOf (typesOf d a) t ≡ At j) where
@@ -214,7 +211,7 @@ module _ (s : Store) (e : Entered s) (n : ℕ) (span : Span) (p : span ≡ spanO
 
     pub has-come : (value archetypes indices : List ℕ) (w : Rows)
         → seatsOf archetypes indices w
-        ≡ movedSeats (blockAt (s .decl) (place .archetype)) (sizesOf (s .decl) (place .archetype)) (blockAt (s .decl) b) (sizesOf (s .decl) b) (seatsOf (s .ids .archetypes) (s .ids .indices) (s .rows)) (place .archetype) (place .index .0) b n
+        ≡ movedSeats (blockIn (s .decl) (place .archetype)) (sizesOf (s .decl) (place .archetype)) (blockIn (s .decl) b) (sizesOf (s .decl) b) (seatsOf (s .ids .archetypes) (s .ids .indices) (s .rows)) (place .archetype) (place .index .0) b n
         (runWith (s .decl) (s .rows) (place .archetype) (place .index .0) t value)
         → Did (insertedAt s n t value c) s (granted tt) (storeOf (s .decl) (idsOf (s .ids .head) (s .ids .generations) archetypes indices (s .ids .pending)) w (s .words))
     unfolding insertedAt

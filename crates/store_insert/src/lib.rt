@@ -11,7 +11,6 @@ use id_tables::Head;
 use id_tables::at;
 use refusal::Refusal;
 use refusal::Tested;
-use row_step::Block;
 use store_moves::Change;
 use store_moves::Entity;
 use store_moves::Target;
@@ -21,6 +20,7 @@ use store_moves::move_row;
 use store_moves::move_tested;
 use store_moves::target_of;
 use store_moves::types_before;
+use store_steps::part_of;
 ghost use mathlib.Core.Bool.{true, false};
 ghost use mathlib.Core.Path.{_≡_};
 ghost use Prim.Native.Nat.{_<_};
@@ -33,11 +33,11 @@ ghost use Rattle.decl.specs.Lookup.{columnOf};
 ghost use Rattle.decl.specs.declared.Column.the-variants.{At};
 ghost use Rattle.cells.specs.Cell.{put};
 ghost use Rattle.row_step.specs.Tables.{tablesOf};
-ghost use Rattle.column_entry.specs.Entry.{wrongSize};
+ghost use Rattle.column_entry.specs.Entry.{wrongSize, blockIn};
 ghost use Rattle.column_entry.specs.Kept.{Kept};
 ghost use Rattle.store_steps.specs.Seats.{seatsOf};
 ghost use Rattle.store_tables.specs.Store.{storeOf};
-ghost use Rattle.store_tables.specs.Rows.{blockAt, archetypeOf, owns};
+ghost use Rattle.store_tables.specs.Rows.{archetypeOf, owns};
 ghost use Rattle.store_tables.specs.Kept.{Entered};
 ghost use Rattle.store_moves.specs.Target.{typesBefore, withType};
 ghost use Rattle.store_moves.specs.Moves.{runWith};
@@ -79,9 +79,7 @@ fn way_for(
     requires { ⌜ (span ≡ spanOf (declOf (now rows) (now widths) (now types) (now sizes)) (archetypeOf (storeOf (declOf (now rows) (now widths) (now types) (now sizes)) (idsOf head (now generations) (now archetypes) (now indices) (now pending)) (tablesOf (now numbers) (now counts) (now bytes)) (now words)) (number .0))) × (place ≡ placeAt (idsOf head (now generations) (now archetypes) (now indices) (now pending)) (number .0)) ⌝ }
     ensures { λ r. ⌜ wayOf r ≡ wayFor (storeOf (declOf (now (rows .entry)) (now (widths .entry)) (now (types .entry)) (now (sizes .entry))) (idsOf head (now (generations .entry)) (now (archetypes .entry)) (now (indices .entry)) (now (pending .entry))) (tablesOf (now (numbers .entry)) (now (counts .entry)) (now (bytes .entry))) (now (words .entry))) (number .0) kind (columnOf (typesOf (declOf (now (rows .entry)) (now (widths .entry)) (now (types .entry)) (now (sizes .entry))) (archetypeOf (storeOf (declOf (now (rows .entry)) (now (widths .entry)) (now (types .entry)) (now (sizes .entry))) (idsOf head (now (generations .entry)) (now (archetypes .entry)) (now (indices .entry)) (now (pending .entry))) (tablesOf (now (numbers .entry)) (now (counts .entry)) (now (bytes .entry))) (now (words .entry))) (number .0))) kind) ⌝ }
 {
-    let from = span.column;
-    let to = span.column + span.columns;
-    let own = &types[from..to];
+    let own = part_of(types, span);
     if let Column::At(j) = decl::find(own, kind) {
         if any_held(words) {
             return Way::Refused(Refusal::WordHeld);
@@ -162,54 +160,33 @@ fn take_in(
     requires { ⌜ Moving (declOf (now rows) (now widths) (now types) (now sizes)) (tablesOf (now numbers) (now counts) (now bytes)) (place .archetype) (place .index .0) target ⌝ }
     requires { ⌜ (span ≡ spanOf (declOf (now rows) (now widths) (now types) (now sizes)) (place .archetype)) × (column ≡ typesBefore kind (typesOf (declOf (now rows) (now widths) (now types) (now sizes)) (place .archetype))) ⌝ }
     requires { ⌜ (typesOf (declOf (now rows) (now widths) (now types) (now sizes)) target ≡ withType kind (typesOf (declOf (now rows) (now widths) (now types) (now sizes)) (place .archetype))) × (length (now value) ≡ sizeOf (declOf (now rows) (now widths) (now types) (now sizes)) target (typesBefore kind (typesOf (declOf (now rows) (now widths) (now types) (now sizes)) (place .archetype)))) ⌝ }
-    ensures { λ _. ⌜ seatsOf (now (archetypes .exit)) (now (indices .exit)) (tablesOf (now (numbers .exit)) (now (counts .exit)) (now (bytes .exit))) ≡ movedSeats (blockAt (declOf (now (rows .entry)) (now (widths .entry)) (now (types .entry)) (now (sizes .entry))) (place .archetype)) (sizesOf (declOf (now (rows .entry)) (now (widths .entry)) (now (types .entry)) (now (sizes .entry))) (place .archetype)) (blockAt (declOf (now (rows .entry)) (now (widths .entry)) (now (types .entry)) (now (sizes .entry))) target) (sizesOf (declOf (now (rows .entry)) (now (widths .entry)) (now (types .entry)) (now (sizes .entry))) target) (seatsOf (now (archetypes .entry)) (now (indices .entry)) (tablesOf (now (numbers .entry)) (now (counts .entry)) (now (bytes .entry)))) (place .archetype) (place .index .0) target (number .0) (runWith (declOf (now (rows .entry)) (now (widths .entry)) (now (types .entry)) (now (sizes .entry))) (tablesOf (now (numbers .entry)) (now (counts .entry)) (now (bytes .entry))) (place .archetype) (place .index .0) kind (now (value .entry))) ⌝ }
+    ensures { λ _. ⌜ seatsOf (now (archetypes .exit)) (now (indices .exit)) (tablesOf (now (numbers .exit)) (now (counts .exit)) (now (bytes .exit))) ≡ movedSeats (blockIn (declOf (now (rows .entry)) (now (widths .entry)) (now (types .entry)) (now (sizes .entry))) (place .archetype)) (sizesOf (declOf (now (rows .entry)) (now (widths .entry)) (now (types .entry)) (now (sizes .entry))) (place .archetype)) (blockIn (declOf (now (rows .entry)) (now (widths .entry)) (now (types .entry)) (now (sizes .entry))) target) (sizesOf (declOf (now (rows .entry)) (now (widths .entry)) (now (types .entry)) (now (sizes .entry))) target) (seatsOf (now (archetypes .entry)) (now (indices .entry)) (tablesOf (now (numbers .entry)) (now (counts .entry)) (now (bytes .entry)))) (place .archetype) (place .index .0) target (number .0) (runWith (declOf (now (rows .entry)) (now (widths .entry)) (now (types .entry)) (now (sizes .entry))) (tablesOf (now (numbers .entry)) (now (counts .entry)) (now (bytes .entry))) (place .archetype) (place .index .0) kind (now (value .entry))) ⌝ }
 {
     let there = column_entry::span(rows, widths, types, sizes, target as usize);
-    let from = span.column;
-    let middle = span.column + column;
-    let to = span.column + span.columns;
-    let index = place.index;
-    let count = at(rows, place.archetype as usize);
-    let line = Line {
-        start: span.base,
-        rows: count,
-        row: index.0,
-    };
-    let rest = line.past(&sizes[from..middle]);
     let size = at(sizes, there.column + column);
     let mut run = [0u8; ROOM];
     gather(
         &mut run,
         bytes,
-        line,
-        &sizes[from..middle],
+        rows,
+        sizes,
+        span,
+        place,
+        column,
+        column,
         size,
         value,
-        rest,
-        &sizes[middle..to],
     );
-    let block = Block {
-        first: span.row,
-        rows: count,
-        base: span.base,
-    };
-    let next = Block {
-        first: there.row,
-        rows: at(rows, target as usize),
-        base: there.base,
-    };
-    let first = there.column;
-    let last = there.column + there.columns;
     move_row(
+        rows,
+        sizes,
         archetypes,
         indices,
         numbers,
         counts,
         bytes,
-        block,
-        &sizes[from..to],
-        next,
-        &sizes[first..last],
+        span,
+        there,
         place,
         target,
         number,

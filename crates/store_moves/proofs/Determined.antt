@@ -3,6 +3,7 @@
 use Prim.Native.Nat.{ℕ}
 use mathlib.Core.Path.{_≡_, sym, ap, _∙_}
 use mathlib.Core.List.{List}
+use lib.ListN.{getD}
 use Rattle.refusal.specs.Table.{testOf, passing}
 use Rattle.refusal.specs.Laws.{sole-answer, not-refused}
 use Rattle.refusal.specs.Distinct.{tested-tells, number-inj}
@@ -11,8 +12,8 @@ use Rattle.handle.specs.declared.Place.{Place}
 use Rattle.id_tables.specs.Ids.{Ids}
 use Rattle.decl.specs.Decl.{Decl}
 use Rattle.decl.specs.declared.Span.{Span}
-use Rattle.cells.specs.declared.Line.{Line}
-use Rattle.row_step.specs.declared.Block.{Block}
+use Rattle.cells.specs.Line.{lineOf}
+use Rattle.store_steps.specs.Parts.{blockBy, partBy}
 use Rattle.store_steps.specs.Seats.{Seats}
 use Rattle.store_moves.specs.declared.target.Target.{Target}
 use Rattle.store_moves.specs.declared.target.Target.the-variants as target
@@ -52,10 +53,12 @@ pub move-tested : (first used : ℕ) (rows archetypes indices numbers counts wor
     → testOf r′ ≡ passing (moveSeen first used rows archetypes indices numbers counts words a row b) → r ≡ r′
 move-tested first used rows archetypes indices numbers counts words a row b r r′ p q = sole-answer testOf tested-tells r r′ p q
 
-pub gather : (out b : List ℕ) (row : Line) (before : List ℕ) (size : ℕ) (value : List ℕ) (rest : Line) (after left left′ : List ℕ)
-    → left ≡ gathered out b row before size value rest after → left′ ≡ gathered out b row before size value rest after → left ≡ left′
-gather out b row before size value rest after left left′ p q = p ∙ sym q
+pub gather : (out b rows sizes : List ℕ) (span : Span) (place : Place) (column past size : ℕ) (value left left′ : List ℕ)
+    → left ≡ gathered out b (lineOf (span .base) (getD rows (place .archetype) 0) (place .index .0)) (partBy sizes span) column past size value
+    → left′ ≡ gathered out b (lineOf (span .base) (getD rows (place .archetype) 0) (place .index .0)) (partBy sizes span) column past size value → left ≡ left′
+gather out b rows sizes span place column past size value left left′ p q = p ∙ sym q
 
-pub move-row : (from : Block) (own : List ℕ) (to : Block) (sizes : List ℕ) (t : Seats) (a r b n : ℕ) (run : List ℕ) (left left′ : Seats)
-    → left ≡ movedSeats from own to sizes t a r b n run → left′ ≡ movedSeats from own to sizes t a r b n run → left ≡ left′
-move-row from own to sizes t a r b n run left left′ p q = p ∙ sym q
+pub move-row : (rows sizes : List ℕ) (here there : Span) (t : Seats) (a r b n : ℕ) (run : List ℕ) (left left′ : Seats)
+    → left ≡ movedSeats (blockBy rows here a) (partBy sizes here) (blockBy rows there b) (partBy sizes there) t a r b n run
+    → left′ ≡ movedSeats (blockBy rows here a) (partBy sizes here) (blockBy rows there b) (partBy sizes there) t a r b n run → left ≡ left′
+move-row rows sizes here there t a r b n run left left′ p q = p ∙ sym q

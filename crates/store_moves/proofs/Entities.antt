@@ -4,11 +4,11 @@ use Prim.{Unit, tt}
 use Prim.Native.Nat.{ℕ, _<_}
 use mathlib.Core.Path.{_≡_, refl, sym, ap, _∙_}
 use mathlib.Core.Bool.{Bool, true, false}
-use mathlib.Core.List.{List, [], _∷_}
+use mathlib.Core.List.{List}
 use mathlib.Core.Option.{Option, none, some}
 use borrow.Author.Tests.{not-false, leb-false, lt-leb}
-use Rattle.refusal.specs.Table.{Rule, _when_, Answer, granted, refused, _orElse_, _otherwise_, passing}
-use Rattle.refusal.specs.Laws.{not-refused, passed-all, none-holds, value-of, past, halted}
+use Rattle.refusal.specs.Table.{_when_, Answer, granted, refused, _orElse_, _otherwise_, passing}
+use Rattle.refusal.specs.Laws.{not-refused, passed-all, none-holds, value-of, past, halted, stops}
 use Rattle.handle.specs.declared.Place.{Place}
 use Rattle.borrow_word.specs.Slice.{anyHeld}
 use Rattle.id_tables.specs.Head.{flushed}
@@ -76,13 +76,6 @@ module _ (s : Store) (n : ℕ) (run : List ℕ) where
   into-parts none e = absurd (not-refused e)
   into-parts (some b) e =
       (b, refl, move-ok s n b (passed-all (moveRules s n b) _ e .0), value-of (moveRules s n b) (tt, movedTo s n b run) e)
-
--- what the first rule to refuse says of every answer that might follow
-pub stops : {A B : Type 0} {m : ℕ} (rules : List Rule) (v : A) (b : Answer B) → refused m ≡ (rules otherwise v) → (rules orElse b) ≡ refused m
-unfolding _orElse_
-stops [] v b e = absurd (not-refused (sym e))
-stops (k when true ∷ rest) v b e = cc
-stops (k when false ∷ rest) v b e = stops rest v b e
 
 -- what `entity_at` saw
 module _ (s : Store) (e : Entered s) (g n : ℕ) where

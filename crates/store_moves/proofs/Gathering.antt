@@ -16,7 +16,7 @@ use Rattle.cells.proofs.Rows.{past-line, length-row, Within}
 use Rattle.cells.proofs.Blocks.{width-next}
 use Rattle.cells.proofs.Runs.{row-append, within-before, within-after, run-put}
 use Rattle.store_moves.specs.Lists.{putIn, takenOut}
-use Rattle.store_moves.specs.Steps.{afterOf, gathered}
+use Rattle.store_moves.specs.Steps.{afterOf, joined}
 use Rattle.store_moves.proofs.Splicing.{put-in, taken-out}
 
 -- a line that 64 bits tell is itself
@@ -93,9 +93,9 @@ module _ (out b : List ℕ) (row : Line) (before : List ℕ) (size : ℕ) (value
   zs-long : length zs ≡ width after
   zs-long = length-row after b rest w
 
-  pub gathers-run : gathered out b row before size value rest after ≡ (xs ++ (value ++ zs)) ++ drop (width before + size + width after) out
-  unfolding gathered
-  gathers-run =
+  pub joins-run : joined out b row before size value rest after ≡ (xs ++ (value ++ zs)) ++ drop (width before + size + width after) out
+  unfolding joined
+  joins-run =
       let ends : length xs + length value + length zs ≡ width before + size + width after = omega (arith, xs-long, zs-long) in
       let gap : lineTold (pastOf runLine before) .start ≡ length xs = ap (λ (m : Line). m .start) (gap-at before (omega arith)) ∙ sym xs-long in
       let next : afterOf before size ≡ lineOf (length xs + length value) 1 0 = rw (xs-long, l) (after-at before size (omega arith)) in

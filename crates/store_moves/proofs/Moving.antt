@@ -5,8 +5,8 @@ use native.Mathlib.Nat.{mul-le-mul-left}
 use native.Mathlib.Omega.{arith}
 use mathlib.Core.List.{List, [], _∷_, _++_}
 use mathlib.Core.Path.{_≡_, refl, sym, ap, _∙_}
-use lib.ListN.{length, getD, set, take, drop, length-append, length-drop, take-append-drop}
-use lib.Seq.{getD-set-other, drop-drop, length-take-le, take-add, take-at, drop-at}
+use lib.ListN.{length, getD, set, take, drop, length-append, take-append-drop}
+use lib.Seq.{getD-set-other}
 use Rattle.handle.specs.Bits.{placeOf}
 use Rattle.id_tables.specs.Ids.{idsOf, placed}
 use Rattle.decl.specs.Decl.{Decl, archetypes, rowsOf, widthOf, firstColumn, typesOf, sizesOf, sizeOf}
@@ -16,21 +16,22 @@ use Rattle.decl.specs.Kept.{Shaped}
 use Rattle.decl.proofs.Lists.{sum-in}
 use Rattle.decl.proofs.Keeping.{types-length, sizes-length, sizes-end, size-at, columns-all}
 use Rattle.decl.proofs.Placing.{width-in, total-in}
-use Rattle.decl.proofs.Lending.{sizes-lent}
 use Rattle.cells.specs.Line.{lineOf, pastOf, width, rowBytes, lineTold}
 use Rattle.cells.specs.declared.Line.{Line}
 use Rattle.cells.proofs.Rows.{past-line, length-row, Within}
 use Rattle.cells.proofs.Blocks.{within-block, width-none, width-next}
 use Rattle.cells.proofs.Runs.{width-append, run-start}
 use Rattle.row_step.specs.declared.Block.{Block}
-use Rattle.row_step.specs.Tables.{Rows, tablesOf, countOf, blockOf, lineIn, appended}
+use Rattle.row_step.specs.Tables.{Rows, tablesOf, countOf, lineIn, appended}
 use Rattle.row_step.proofs.Held.{appended-counts}
-use Rattle.column_entry.specs.Entry.{spanIn}
+use Rattle.column_entry.proofs.Widths.{row-wide, block-in}
+use Rattle.column_entry.specs.Entry.{spanIn, blockIn}
 use Rattle.column_entry.proofs.Keeping.{span-kept}
+use Rattle.store_steps.specs.Parts.{blockBy, partBy}
 use Rattle.store_steps.specs.Seats.{Seats, seatsOf, seatedRows, vacatedSeats, filled}
-use Rattle.store_steps.proofs.Laws.{seated-rows}
+use Rattle.store_steps.proofs.Laws.{block-by, sizes-by, seated-rows}
 use Rattle.store_tables.specs.Store.{Store, storeOf, withIds}
-use Rattle.store_tables.specs.Rows.{blockAt, archetypeOf, rowOf, seated, vacated}
+use Rattle.store_tables.specs.Rows.{archetypeOf, rowOf, seated, vacated}
 use Rattle.store_tables.proofs.Places.{vacating}
 use Rattle.store_moves.specs.Lists.{putIn, takenOut}
 use Rattle.store_moves.specs.Target.{typesBefore}
@@ -38,8 +39,8 @@ use Rattle.store_moves.specs.Moves.{rowRun, runStart, runWith, runWithou
 use Rattle.store_moves.specs.Steps.{gathered, movedSeats}
 use Rattle.store_moves.specs.Kept.{Moving}
 use Rattle.store_moves.proofs.Splicing.{length-put-in}
-use Rattle.store_moves.proofs.Gathering.{line-fits, gathers-run, front-within, back-within, run-with-is, run-without-is}
-use Rattle.store_moves.proofs.Targets.{width-is, block-within, width-in-out, width-out, before-in, wider, with-sizes, without-sizes}
+use Rattle.store_moves.proofs.Gathering.{line-fits, joins-run, front-within, back-within, run-with-is, run-without-is}
+use Rattle.store_moves.proofs.Targets.{width-in-out, width-out, before-in, wider, with-sizes, without-sizes}
 
 -- only the start of a run is read
 seats-start : (from to : Block) (own sizes : List ℕ) (t : Seats) (a r b n : ℕ) (run more : List ℕ) → countOf (t .rows) b < to .rows → width sizes ≤ length run
@@ -59,7 +60,7 @@ front-in ns j = sym (width-append (take j ns) (drop j ns)) ∙ ap width (take-ap
 pub width-one : (n : ℕ) → width (n ∷ []) ≡ n
 width-one n = omega (arith, width-next (n ∷ []) 0 (omega arith), width-none (n ∷ []))
 
--- An archetype's sizes, whole and in two parts, as they are lent.
+-- An archetype's columns among all.
 module _ (d : Decl) (g : Shaped d) (a : ℕ) (span : Span) (e : span ≡ spanOf d a) where
   starts : span .column ≡ firstColumn d a
   starts = ap (λ (x : Span). x .column) e
@@ -73,44 +74,18 @@ module _ (d : Decl) (g : Shaped d) (a : ℕ) (span : Span) (e : span ≡ spanOf 
   pub all-small : span .column + span .columns ≤ 256
   all-small = omega (arith, all-in, g .sizes-long, columns-all d (g .widths-long), sum-in 16 (d .widths) (g .widths-in), g .widths-long, g .few)
 
-  pub all-lent : take ((span .column + span .columns) - span .column) (drop (span .column) (d .sizes)) ≡ sizesOf d a
-  all-lent = sizes-lent d a (span .column) (span .column + span .columns) starts (ap (λ (z : ℕ). span .column + z) many)
-
-  module _ (j : ℕ) (h : j ≤ span .columns) where
-    abbrev whole : List ℕ
-    whole = drop (span .column) (d .sizes)
-
-    long : j ≤ length whole
-    long = omega (arith, length-drop (span .column) (d .sizes), all-in)
-
-    parted : sizesOf d a ≡ take j whole ++ take (span .columns - j) (drop j whole)
-    parted =
-        let u : (span .column + span .columns) - span .column ≡ j + (span .columns - j) = omega arith in
-        sym all-lent ∙ ap (λ (z : ℕ). take z whole) u ∙ take-add j (span .columns - j) whole
-
-    pub front-lent : take ((span .column + j) - span .column) (drop (span .column) (d .sizes)) ≡ take j (sizesOf d a)
-    front-lent =
-        let u : (span .column + j) - span .column ≡ j = omega arith in
-        rw (u, parted) (sym (take-at (take j whole) (take (span .columns - j) (drop j whole)) j (length-take-le j whole long)))
-
-    pub back-lent : take ((span .column + span .columns) - (span .column + j)) (drop (span .column + j) (d .sizes)) ≡ drop j (sizesOf d a)
-    back-lent =
-        let u : (span .column + span .columns) - (span .column + j) ≡ span .columns - j = omega arith in
-        rw (u, ← drop-drop j (span .column) (d .sizes), parted)
-        (sym (drop-at (take j whole) (take (span .columns - j) (drop j whole)) j (length-take-le j whole long)))
-
 module _ (d : Decl) (w : Rows) (a r b : ℕ) (m : Moving d w a r b) where
   abbrev ns : List ℕ
   ns = sizesOf d a
 
   abbrev line : Line
-  line = lineIn (blockAt d a) r
+  line = lineIn (blockIn d a) r
 
   row-there : r < rowsOf d a
   row-there = omega (arith, m .row-in, m .ready .counts-in a)
 
   bytes-in : baseOf d a + rowsOf d a * width ns ≤ length (w .bytes)
-  bytes-in = omega (arith, block-within d a (m .here), m .ready .tabled .bytes-long)
+  bytes-in = omega (arith, block-in d a (m .here), m .ready .tabled .bytes-long)
 
   pub row-within : Within (length (w .bytes)) line ns
   row-within = within-block ns (baseOf d a) (rowsOf d a) r (length (w .bytes)) row-there bytes-in
@@ -120,13 +95,13 @@ module _ (d : Decl) (w : Rows) (a r b : ℕ) (m : Moving d w a r b) where
   rest-told j =
       line-fits (pastOf line (take j ns))
       (rw (past-line (take j ns) line)
-      (omega (arith, mul-le-mul-left (rowsOf d a) (shorter j), block-within d a (m .here), total-in d (m .ready .tabled .kept .declared))))
+      (omega (arith, mul-le-mul-left (rowsOf d a) (shorter j), block-in d a (m .here), total-in d (m .ready .tabled .kept .declared))))
     where
       shorter : (j : ℕ) → width (take j ns) ≤ width ns
       shorter j = omega (arith, front-in ns j)
 
   wide : width (sizesOf d b) ≤ 1024
-  wide = omega (arith, width-in d (m .ready .tabled .kept .declared) b, width-is d b)
+  wide = omega (arith, width-in d (m .ready .tabled .kept .declared) b, row-wide d b)
 
   -- a buffer with the row and a value of type t in it
   module _ (t : ℕ) (value : List ℕ) (e : typesOf d b ≡ putIn (typesBefore t (typesOf d a)) (t ∷ []) (typesOf d a)) (l : length value ≡ sizeOf d b (typesBefore t (typesOf d a)))
@@ -144,12 +119,12 @@ module _ (d : Decl) (w : Rows) (a r b : ℕ) (m : Moving d w a r b) where
     unfolding runWith rowRun
     run-long = omega (arith, length-put-in (runStart d a p) value (rowBytes (w .bytes) line ns), length-row ns (w .bytes) line row-within, as-wide)
 
-    gather-with : gathered out (w .bytes) line (take p ns) (sizeOf d b p) value (lineTold (pastOf line (take p ns))) (drop p ns)
+    gather-with : gathered out (w .bytes) line ns p p (sizeOf d b p) value
         ≡ runWith d w a r t value ++ drop (width (take p ns) + sizeOf d b p + width (drop p ns)) out
-    unfolding runWith rowRun runStart
+    unfolding gathered runWith rowRun runStart
     gather-with =
         rw (rest-told p)
-        (gathers-run out (w .bytes) line (take p ns) (sizeOf d b p) value (pastOf line (take p ns)) (drop p ns)
+        (joins-run out (w .bytes) line (take p ns) (sizeOf d b p) value (pastOf line (take p ns)) (drop p ns)
         (front-within (w .bytes) line ns row-within p) (back-within (w .bytes) line ns row-within p) l
         (omega (arith, front-in ns p, as-wide, wide)) (omega arith)
         ∙ ap (λ (z : List ℕ). z ++ drop (width (take p ns) + sizeOf d b p + width (drop p ns)) out) (sym (run-with-is (w .bytes) line ns row-within p value)))
@@ -174,91 +149,73 @@ module _ (d : Decl) (w : Rows) (a r b : ℕ) (m : Moving d w a r b) where
           length-row (drop (j + 1) ns) (w .bytes) (pastOf line (take (j + 1) ns)) (back-within (w .bytes) line ns row-within (j + 1)),
         )
 
-    gather-without : gathered out (w .bytes) line (take j ns) 0 [] (lineTold (pastOf line (take (j + 1) ns))) (drop (j + 1) ns)
+    gather-without : gathered out (w .bytes) line ns j (j + 1) 0 []
         ≡ runWithout d w a r j ++ drop (width (take j ns) + 0 + width (drop (j + 1) ns)) out
-    unfolding runWithout rowRun runStart
+    unfolding gathered runWithout rowRun runStart
     gather-without =
         rw (rest-told (j + 1))
-        (gathers-run out (w .bytes) line (take j ns) 0 [] (pastOf line (take (j + 1) ns)) (drop (j + 1) ns)
+        (joins-run out (w .bytes) line (take j ns) 0 [] (pastOf line (take (j + 1) ns)) (drop (j + 1) ns)
         (front-within (w .bytes) line ns row-within j) (back-within (w .bytes) line ns row-within (j + 1)) refl
         (omega (arith, fewer, wide)) (omega arith)
         ∙ ap (λ (z : List ℕ). z ++ drop (width (take j ns) + 0 + width (drop (j + 1) ns)) out) (sym (run-without-is (w .bytes) line ns row-within j (omega (arith, columns)))))
 
--- What bounds the sums and the parts of the code: an archetype's columns among all.
-pub record Room (d : Decl) (a : ℕ) (span : Span) : Type 0 where
-  pub small : span .column + span .columns ≤ 256
-  pub inside : span .column + span .columns ≤ length (d .sizes)
-  pub as-many : span .columns ≡ widthOf d a
-
-pub own-room : (d : Decl) (w : Rows) (a r b : ℕ) → Moving d w a r b → (span : Span) → span ≡ spanOf d a → Room d a span
-own-room d w a r b m span p =
-    let g : Shaped d = m .ready .tabled .kept .declared .shaped in
-    record { small = all-small d g a span p; inside = all-in d g a span p; as-many = ap (λ (u : Span). u .columns) p }
-
-pub to-room : (d : Decl) (w : Rows) (a r b : ℕ) → Moving d w a r b → (to : Span) → to ≡ spanIn d b → Room d b to
-to-room d w a r b m to q =
-    let g : Shaped d = m .ready .tabled .kept .declared .shaped in
-    let p : to ≡ spanOf d b = q ∙ span-kept d b (m .ready .tabled .kept) (omega (arith, m .there)) in
-    record { small = all-small d g b to p; inside = all-in d g b to p; as-many = ap (λ (u : Span). u .columns) p }
-
--- What `move_row` left of the tables, lent the archetypes' parts and the gathered bytes.
-module _ (d : Decl) (w : Rows) (a r b : ℕ) (m : Moving d w a r b) (n : ℕ) (archetypes indices : List ℕ) (span to : Span) (p : span ≡ spanOf d a) (q : to ≡ spanIn d b)
-    (rows rows′ : ℕ) (x : rows ≡ getD (d .rows) a 0) (y : rows′ ≡ getD (d .rows) b 0) where
+-- What `move_row` left of the tables, lent the archetypes' spans and the gathered bytes.
+module _ (d : Decl) (w : Rows) (a r b : ℕ) (m : Moving d w a r b) (span to : Span) (p : span ≡ spanOf d a) (q : to ≡ spanIn d b) where
   abbrev shape : Shaped d
   shape = m .ready .tabled .kept .declared .shaped
 
   to-is : to ≡ spanOf d b
   to-is = q ∙ span-kept d b (m .ready .tabled .kept) (omega (arith, m .there))
 
-  abbrev before : Seats
-  before = seatsOf archetypes indices w
+  -- columns are few: a value's in the target, and the one past a column
+  in-row : (t j : ℕ) → typesOf d b ≡ putIn (typesBefore t (typesOf d a)) (t ∷ []) (typesOf d a) → j ≡ typesBefore t (typesOf d a) → j < widthOf d b
+  in-row t j e c =
+      let i = before-in t (typesOf d a) in
+      omega (arith, c, i, types-length d shape a, wider d (m .ready .tabled .kept .declared) a b (m .here) (m .there) t (typesBefore t (typesOf d a)) i e)
 
-  -- lent the blocks and the sizes of all columns
-  abbrev lent : List ℕ → Seats
-  lent run =
-      movedSeats (blockOf (span .row) rows (span .base)) (take ((span .column + span .columns) - span .column) (drop (span .column) (d .sizes)))
-      (blockOf (to .row) rows′ (to .base)) (take ((to .column + to .columns) - to .column) (drop (to .column) (d .sizes))) before a r b n run
+  pub column-small : (t j : ℕ) → typesOf d b ≡ putIn (typesBefore t (typesOf d a)) (t ∷ []) (typesOf d a) → j ≡ typesBefore t (typesOf d a) → to .column + j < 256
+  column-small t j e c = omega (arith, in-row t j e c, all-small d shape b to to-is, ap (λ (u : Span). u .columns) to-is)
 
-  abbrev exact : List ℕ → Seats
-  exact run = movedSeats (blockAt d a) (sizesOf d a) (blockAt d b) (sizesOf d b) before a r b n run
+  pub next-small : (j : ℕ) → j < widthOf d a → j + 1 ≤ 256
+  next-small j h = omega (arith, all-small d shape a span p, ap (λ (u : Span). u .columns) p)
 
-  laid : (run : List ℕ) (seats : Seats) → seats ≡ lent run → seats ≡ exact run
-  laid run seats v = rw (all-lent d shape a span p, all-lent d shape b to to-is, p, to-is, x, y) at v
+  module _ (n : ℕ) (archetypes indices : List ℕ) where
+    abbrev before : Seats
+    before = seatsOf archetypes indices w
 
-  module _ (t : ℕ) (value : List ℕ) (e : typesOf d b ≡ putIn (typesBefore t (typesOf d a)) (t ∷ []) (typesOf d a)) (l : length value ≡ sizeOf d b (typesBefore t (typesOf d a)))
-      (out : List ℕ) (o : length out ≡ 1024) (j size : ℕ) (c : j ≡ typesBefore t (typesOf d a)) (z : size ≡ getD (d .sizes) (to .column + j) 0)
-      (rest : Line) (k : rest ≡ lineTold (pastOf (lineOf (span .base) rows r) (take ((span .column + j) - span .column) (drop (span .column) (d .sizes)))))
-      (run : List ℕ)
-      (g : run ≡ gathered out (w .bytes) (lineOf (span .base) rows r) (take ((span .column + j) - span .column) (drop (span .column) (d .sizes))) size value rest
-      (take ((span .column + span .columns) - (span .column + j)) (drop (span .column + j) (d .sizes)))) where
-    in-row : j ≤ span .columns
-    in-row = omega (arith, c, before-in t (typesOf d a), types-length d shape a, ap (λ (u : Span). u .columns) p)
+    abbrev lent : List ℕ → Seats
+    lent run = movedSeats (blockBy (d .rows) span a) (partBy (d .sizes) span) (blockBy (d .rows) to b) (partBy (d .sizes) to) before a r b n run
 
-    size-is : size ≡ sizeOf d b (typesBefore t (typesOf d a))
-    size-is =
-        z ∙ ap (λ (u : Span). getD (d .sizes) (u .column + j) 0) to-is
-        ∙ sym (size-at d b j (omega (arith, in-row, ap (λ (u : Span). u .columns) p, wider d (m .ready .tabled .kept .declared) a b (m .here) (m .there) t (typesBefore t (typesOf d a)) (before-in t (typesOf d a)) e)))
-        ∙ ap (sizeOf d b) c
+    abbrev exact : List ℕ → Seats
+    exact run = movedSeats (blockIn d a) (sizesOf d a) (blockIn d b) (sizesOf d b) before a r b n run
 
-    pub took-in : (seats : Seats) → seats ≡ lent run → seats ≡ exact (runWith d w a r t value)
-    took-in seats v =
-        let i = rw (k, front-lent d shape a span p j in-row, back-lent d shape a span p j in-row, size-is, p, x, c) at g in
-        laid run seats v ∙ ap (λ (u : List ℕ). exact u) (i ∙ gather-with d w a r b m t value e l out o)
-        ∙ seats-start (blockAt d a) (blockAt d b) (sizesOf d a) (sizesOf d b) before a r b n (runWith d w a r t value) _ (m .row-unused) (omega (arith, run-long d w a r b m t value e l out o))
+    laid : (run : List ℕ) (seats : Seats) → seats ≡ lent run → seats ≡ exact run
+    laid run seats v = rw (block-by d a span p, sizes-by d a span p, block-by d b to to-is, sizes-by d b to to-is) at v
 
-  module _ (j : ℕ) (h : j < widthOf d a) (e : typesOf d b ≡ takenOut j 1 (typesOf d a)) (out : List ℕ) (o : length out ≡ 1024)
-      (rest : Line) (k : rest ≡ lineTold (pastOf (lineOf (span .base) rows r) (take ((span .column + (j + 1)) - span .column) (drop (span .column) (d .sizes)))))
-      (run : List ℕ)
-      (g : run ≡ gathered out (w .bytes) (lineOf (span .base) rows r) (take ((span .column + j) - span .column) (drop (span .column) (d .sizes))) 0 [] rest
-      (take ((span .column + span .columns) - (span .column + (j + 1))) (drop (span .column + (j + 1)) (d .sizes)))) where
-    past-row : j + 1 ≤ span .columns
-    past-row = omega (arith, ap (λ (u : Span). u .columns) p)
+    -- as much of the gathered bytes is read as the row is wide
+    settled : (run more : List ℕ) (seats : Seats) → seats ≡ lent (run ++ more) → width (sizesOf d b) ≤ length run → seats ≡ exact run
+    settled run more seats v l =
+        laid (run ++ more) seats v ∙ seats-start (blockIn d a) (blockIn d b) (sizesOf d a) (sizesOf d b) before a r b n run more (m .row-unused) l
 
-    pub took-out : (seats : Seats) → seats ≡ lent run → seats ≡ exact (runWithout d w a r j)
-    took-out seats v =
-        let i = rw (k, front-lent d shape a span p j (omega (arith, past-row)), front-lent d shape a span p (j + 1) past-row, back-lent d shape a span p (j + 1) past-row, p, x) at g in
-        laid run seats v ∙ ap (λ (u : List ℕ). exact u) (i ∙ gather-without d w a r b m j h e out o)
-        ∙ seats-start (blockAt d a) (blockAt d b) (sizesOf d a) (sizesOf d b) before a r b n (runWithout d w a r j) _ (m .row-unused) (omega (arith, run-less d w a r b m j h e out o))
+    abbrev row : Line
+    row = lineOf (span .base) (getD (d .rows) a 0) r
+
+    pub took-in : (t : ℕ) (value : List ℕ) (e : typesOf d b ≡ putIn (typesBefore t (typesOf d a)) (t ∷ []) (typesOf d a)) → length value ≡ sizeOf d b (typesBefore t (typesOf d a))
+        → (j : ℕ) → j ≡ typesBefore t (typesOf d a) → (out : List ℕ) → length out ≡ 1024 → (size : ℕ) → size ≡ getD (d .sizes) (to .column + j) 0
+        → (run : List ℕ) → run ≡ gathered out (w .bytes) row (partBy (d .sizes) span) j j size value
+        → (seats : Seats) → seats ≡ lent run → seats ≡ exact (runWith d w a r t value)
+    took-in t value e l j c out o size z run g seats v =
+        let k : size ≡ sizeOf d b (typesBefore t (typesOf d a)) =
+        z ∙ ap (λ (u : Span). getD (d .sizes) (u .column + j) 0) to-is ∙ sym (size-at d b j (in-row t j e c)) ∙ ap (sizeOf d b) c in
+        let i = (rw (sizes-by d a span p, p, k, c) at g) ∙ gather-with d w a r b m t value e l out o in
+        settled (runWith d w a r t value) _ seats (v ∙ ap (λ (u : List ℕ). lent u) i) (omega (arith, run-long d w a r b m t value e l out o))
+
+    pub took-out : (j : ℕ) (h : j < widthOf d a) (e : typesOf d b ≡ takenOut j 1 (typesOf d a)) (out : List ℕ) → length out ≡ 1024
+        → (run : List ℕ) → run ≡ gathered out (w .bytes) row (partBy (d .sizes) span) j (j + 1) 0 []
+        → (seats : Seats) → seats ≡ lent run → seats ≡ exact (runWithout d w a r j)
+    took-out j h e out o run g seats v =
+        let i = (rw (sizes-by d a span p, p) at g) ∙ gather-without d w a r b m j h e out o in
+        settled (runWithout d w a r j) _ seats (v ∙ ap (λ (u : List ℕ). lent u) i) (omega (arith, run-less d w a r b m j h e out o))
 
 -- The store that is left.
 module _ (s : Store) (n b : ℕ) (run : List ℕ) (row-in : rowOf s n < countOf (s .rows) (archetypeOf s n)) (used : countOf (s .rows) (archetypeOf s n) ≤ rowsOf (s .decl) (archetypeOf s n))
@@ -267,17 +224,17 @@ module _ (s : Store) (n b : ℕ) (run : List ℕ) (row-in : rowOf s n < countOf 
   own = archetypeOf s n
 
   abbrev taken : Rows
-  taken = seatedRows (blockAt (s .decl) b) (sizesOf (s .decl) b) (s .rows) b n run
+  taken = seatedRows (blockIn (s .decl) b) (sizesOf (s .decl) b) (s .rows) b n run
 
   -- the new row is in another archetype
   pub same-count : countOf taken own ≡ countOf (s .rows) own
   same-count =
-      ap (λ (x : Rows). countOf x own) (seated-rows (blockAt (s .decl) b) (sizesOf (s .decl) b) (s .rows) b n run unused)
-      ∙ ap (λ (x : List ℕ). getD x own 0) (appended-counts (blockAt (s .decl) b) (tablesOf (s .rows .numbers) (s .rows .counts) (filled (blockAt (s .decl) b) (sizesOf (s .decl) b) (s .rows) b run)) b n)
+      ap (λ (x : Rows). countOf x own) (seated-rows (blockIn (s .decl) b) (sizesOf (s .decl) b) (s .rows) b n run unused)
+      ∙ ap (λ (x : List ℕ). getD x own 0) (appended-counts (blockIn (s .decl) b) (tablesOf (s .rows .numbers) (s .rows .counts) (filled (blockIn (s .decl) b) (sizesOf (s .decl) b) (s .rows) b run)) b n)
       ∙ getD-set-other (s .rows .counts) b own (countOf (s .rows) b + 1) 0 (λ e. other (sym e))
 
   abbrev step : Seats
-  step = vacatedSeats (blockAt (s .decl) own) (sizesOf (s .decl) own) (seatsOf (s .ids .archetypes) (s .ids .indices) taken) own (rowOf s n)
+  step = vacatedSeats (blockIn (s .decl) own) (sizesOf (s .decl) own) (seatsOf (s .ids .archetypes) (s .ids .indices) taken) own (rowOf s n)
 
   vacant : storeOf (s .decl) (idsOf (s .ids .head) (s .ids .generations) (step .archetypes) (step .indices) (s .ids .pending)) (step .rows) (s .words) ≡ rowMoved s n b run
   unfolding rowMoved
@@ -286,7 +243,7 @@ module _ (s : Store) (n b : ℕ) (run : List ℕ) (row-in : rowOf s n < countOf 
       (omega (arith, same-count)) (omega (arith, same-count)) refl
 
   pub has-moved : (archetypes indices : List ℕ) (w : Rows)
-      → seatsOf archetypes indices w ≡ movedSeats (blockAt (s .decl) own) (sizesOf (s .decl) own) (blockAt (s .decl) b) (sizesOf (s .decl) b) (seatsOf (s .ids .archetypes) (s .ids .indices) (s .rows)) own (rowOf s n) b n run
+      → seatsOf archetypes indices w ≡ movedSeats (blockIn (s .decl) own) (sizesOf (s .decl) own) (blockIn (s .decl) b) (sizesOf (s .decl) b) (seatsOf (s .ids .archetypes) (s .ids .indices) (s .rows)) own (rowOf s n) b n run
       → storeOf (s .decl) (idsOf (s .ids .head) (s .ids .generations) archetypes indices (s .ids .pending)) w (s .words) ≡ movedTo s n b run
   unfolding movedSeats movedTo
   has-moved archetypes indices w v =

@@ -10,13 +10,12 @@ use mathlib.Core.Path.{_≡_, refl, sym, ap, _∙_}
 use lib.ListN.{length, getD, take, drop, replicate, length-drop}
 use lib.Seq.{take-append-le, drop-append-le, drop-append-add, take-append-add, take-at, length-take-le, take-take, take-add, getD-take, getD-drop}
 use Rattle.decl.specs.Decl.{Decl, rowsOf, widthOf, typesOf, sizesOf, typeOf, sizeOf}
-use Rattle.decl.specs.Places.{baseOf, rowWidth, cellStart}
+use Rattle.decl.specs.Places.{baseOf, cellStart}
 use Rattle.decl.specs.Kept.{Declared}
 use Rattle.decl.specs.Lists.{rising}
 use Rattle.decl.proofs.Lists.{below-or-not, rises}
 use Rattle.decl.proofs.Keeping.{types-length, sizes-length}
-use Rattle.decl.proofs.Placing.{base-grows, base-next}
-use Rattle.decl.proofs.Lending.{column-start, cell-start}
+use Rattle.decl.proofs.Placing.{base-grows}
 use Rattle.cells.specs.Cell.{cell}
 use Rattle.cells.specs.Line.{lineOf, cellAt, pastOf, width, runLine, rowBytes, transferred}
 use Rattle.cells.specs.declared.Line.{Line}
@@ -26,10 +25,12 @@ use Rattle.cells.proofs.Blocks.{width-all, width-take, within-block, parted-blo
 use Rattle.cells.proofs.Runs.{width-append, run-cell}
 use Rattle.row_step.specs.Tables.{Rows, tablesOf, countOf, lineIn, removed}
 use Rattle.row_step.proofs.Held.{appended-bytes, removed-outside}
+use Rattle.column_entry.proofs.Widths.{line-cell, block-end, block-in}
+use Rattle.column_entry.specs.Entry.{blockIn}
 use Rattle.store_steps.specs.Seats.{filled, seatedRows}
 use Rattle.store_steps.proofs.Laws.{seated-rows}
 use Rattle.store_tables.specs.Store.{Store}
-use Rattle.store_tables.specs.Rows.{blockAt, archetypeOf, rowOf, seated}
+use Rattle.store_tables.specs.Rows.{archetypeOf, rowOf, seated}
 use Rattle.store_tables.proofs.Vacating.{vacated-rows}
 use Rattle.store_moves.specs.Lists.{putIn, takenOut}
 use Rattle.store_moves.specs.Target.{typesBefore}
@@ -37,7 +38,7 @@ use Rattle.store_moves.specs.Moves.{rowRun, runStart, runWith, runWithou
 use Rattle.store_moves.specs.Kept.{Moving}
 use Rattle.store_moves.proofs.Splicing.{put-in, taken-out, in-before, in-after, out-before, out-after}
 use Rattle.store_moves.proofs.Gathering.{front-within, back-within, run-with-is, run-without-is}
-use Rattle.store_moves.proofs.Targets.{firsts, width-is, block-within, before-in, wider, narrower, type-added, with-differs, with-before, with-after, with-sizes, without-differs, without-before, without-after, without-sizes}
+use Rattle.store_moves.proofs.Targets.{before-in, wider, narrower, type-added, with-differs, with-before, with-after, with-sizes, without-differs, without-before, without-after, without-sizes}
 use Rattle.store_moves.proofs.Moving.{width-one, row-within, run-long, run-less, same-count}
 
 -- cells of two lists, one after the other
@@ -57,7 +58,7 @@ cell-all xs ys n e = cell-is (xs ++ ys) 0 n ∙ take-at xs ys n e
 
 -- where a row's cells are, by the declaration
 pub start-is : (d : Decl) (a j r : ℕ) → j ≤ length (sizesOf d a) → cellStart d a j r ≡ cellAt (lineOf (baseOf d a) (rowsOf d a) r) (sizesOf d a) j
-start-is d a j r h = cell-start d a j r ∙ rw (column-start d a j, firsts (sizesOf d a) j h) (sym (cell-at (lineOf (baseOf d a) (rowsOf d a) r) (sizesOf d a) j))
+start-is d a j r h = sym (line-cell d a r j h)
 
 run-at : (ns : List ℕ) (j : ℕ) → cellAt runLine ns j ≡ width (take j ns)
 run-at ns j = cell-at runLine ns j ∙ omega arith
@@ -187,22 +188,22 @@ module _ (s : Store) (n b : ℕ) (run : List ℕ) (m : Moving (s .decl) (s .rows
   a = archetypeOf s n
 
   abbrev to : Line
-  to = lineIn (blockAt d b) (countOf (s .rows) b)
+  to = lineIn (blockIn d b) (countOf (s .rows) b)
 
   abbrev taken : Rows
-  taken = seatedRows (blockAt d b) (sizesOf d b) (s .rows) b n run
+  taken = seatedRows (blockIn d b) (sizesOf d b) (s .rows) b n run
 
-  rows-are : movedTo s n b run .rows ≡ removed (blockAt d a) (sizesOf d a) taken a (rowOf s n)
+  rows-are : movedTo s n b run .rows ≡ removed (blockIn d a) (sizesOf d a) taken a (rowOf s n)
   unfolding movedTo rowMoved
   rows-are = vacated-rows (seated s b n run) a (rowOf s n)
 
   taken-bytes : taken .bytes ≡ transferred run runLine (s .rows .bytes) to (sizesOf d b)
   taken-bytes =
-      ap (λ (x : Rows). x .bytes) (seated-rows (blockAt d b) (sizesOf d b) (s .rows) b n run (m .row-unused))
-      ∙ appended-bytes (blockAt d b) (tablesOf (s .rows .numbers) (s .rows .counts) (filled (blockAt d b) (sizesOf d b) (s .rows) b run)) b n
+      ap (λ (x : Rows). x .bytes) (seated-rows (blockIn d b) (sizesOf d b) (s .rows) b n run (m .row-unused))
+      ∙ appended-bytes (blockIn d b) (tablesOf (s .rows .numbers) (s .rows .counts) (filled (blockIn d b) (sizesOf d b) (s .rows) b run)) b n
 
   bytes-in : baseOf d b + rowsOf d b * width (sizesOf d b) ≤ length (s .rows .bytes)
-  bytes-in = omega (arith, block-within d b (m .there), m .ready .tabled .bytes-long)
+  bytes-in = omega (arith, block-in d b (m .there), m .ready .tabled .bytes-long)
 
   -- the old row's archetype lies elsewhere
   blocks : (k : ℕ) → k < length (sizesOf d b) → Apart (cellAt to (sizesOf d b) k) (sizeOf d b k) (baseOf d a) (rowsOf d a * width (sizesOf d a))
@@ -215,9 +216,7 @@ module _ (s : Store) (n b : ℕ) (run : List ℕ) (m : Moving (s .decl) (s .rows
       (below-or-not b a)
     where
       block-before : (x y : ℕ) → x < y → baseOf d x + rowsOf d x * width (sizesOf d x) ≤ baseOf d y
-      block-before x y h =
-          let e : rowsOf d x * rowWidth d x ≡ rowsOf d x * width (sizesOf d x) = ap (λ (z : ℕ). rowsOf d x * z) (width-is d x) in
-          omega (arith, base-next d x, base-grows d (x + 1) y (omega arith))
+      block-before x y h = omega (arith, block-end d x, base-grows d (x + 1) y (omega arith))
 
   pub new-cell : (k : ℕ) → k < widthOf d b → cell (movedTo s n b run .rows .bytes) (cellStart d b k (countOf (s .rows) b)) (sizeOf d b k) ≡ cell run (width (take k (sizesOf d b))) (sizeOf d b k)
   new-cell k h =
@@ -225,7 +224,7 @@ module _ (s : Store) (n b : ℕ) (run : List ℕ) (m : Moving (s .decl) (s .rows
       let c = same-count s n b run (m .row-in) (m .ready .counts-in a) (m .row-unused) other in
       rw (start-is d b k (countOf (s .rows) b) (omega arith))
       (ap (λ (x : Rows). cell (x .bytes) (cellAt to (sizesOf d b) k) (sizeOf d b k)) rows-are
-      ∙ removed-outside (blockAt d a) (sizesOf d a) taken a (rowOf s n) (omega (arith, c, m .row-in)) (omega (arith, c, m .ready .counts-in a)) (cellAt to (sizesOf d b) k) (sizeOf d b k) (blocks k i)
+      ∙ removed-outside (blockIn d a) (sizesOf d a) taken a (rowOf s n) (omega (arith, c, m .row-in)) (omega (arith, c, m .ready .counts-in a)) (cellAt to (sizesOf d b) k) (sizeOf d b k) (blocks k i)
       ∙ ap (λ (x : List ℕ). cell x (cellAt to (sizesOf d b) k) (sizeOf d b k)) taken-bytes
       ∙ transferred-there (sizesOf d b) run (s .rows .bytes) runLine to
       (record { each = λ q u. rw (run-at (sizesOf d b) q) (omega (arith, width-all (sizesOf d b) q u)) })
@@ -251,7 +250,7 @@ module _ (s : Store) (n b : ℕ) (m : Moving (s .decl) (s .rows) (archetypeOf s 
   declares = m .ready .tabled .kept .declared
 
   abbrev oldRow : Line
-  oldRow = lineIn (blockAt dec old) (rowOf s n)
+  oldRow = lineIn (blockIn dec old) (rowOf s n)
 
   old-within : Within (length (s .rows .bytes)) oldRow (sizesOf dec old)
   old-within = row-within dec (s .rows) old (rowOf s n) b m

@@ -1,6 +1,6 @@
 -- The target of a move: another archetype, whose sizes are the row's with that of the type added or taken.
 -- Assumes nothing.
-use Prim.Native.Nat.{ℕ, zero, suc, _+_, _-_, _*_, _≤_, _<_}
+use Prim.Native.Nat.{ℕ, suc, _+_, _-_, _≤_, _<_}
 use native.Mathlib.Nat.{eq-or-lt-of-le}
 use native.Mathlib.Omega.{arith}
 use mathlib.Core.Bool.{Bool, true, false, cond}
@@ -9,36 +9,16 @@ use mathlib.Core.Logic.{⊎-elim}
 use mathlib.Core.Path.{_≡_, sym, ap, _∙_}
 use lib.Dec.{ltb}
 use lib.ListN.{length, getD, take, drop, take-append-drop}
-use lib.Seq.{ext-getD, take-length}
-use Rattle.decl.specs.Lists.{firstOf}
-use Rattle.decl.specs.Decl.{Decl, archetypes, rowsOf, widthOf, typesOf, sizesOf, typeOf, sizeOf}
-use Rattle.decl.specs.Places.{baseOf, rowWidth}
+use lib.Seq.{ext-getD}
+use Rattle.decl.specs.Decl.{Decl, archetypes, widthOf, typesOf, sizesOf, typeOf, sizeOf}
 use Rattle.decl.specs.Kept.{Declared}
-use Rattle.decl.proofs.Lists.{below-or-not, first-none, first-next}
+use Rattle.decl.proofs.Lists.{below-or-not}
 use Rattle.decl.proofs.Keeping.{types-length, sizes-length}
-use Rattle.decl.proofs.Placing.{base-next, base-grows}
-use Rattle.decl.proofs.Lending.{row-width}
 use Rattle.cells.specs.Line.{width}
-use Rattle.cells.proofs.Blocks.{width-none, width-next}
 use Rattle.cells.proofs.Runs.{width-append}
 use Rattle.store_moves.specs.Lists.{putIn, takenOut}
 use Rattle.store_moves.specs.Target.{typesBefore}
 use Rattle.store_moves.proofs.Splicing.{put-in, taken-out, length-put-in, length-out, in-before, in-here, in-after, out-before, out-after}
-
--- widths of rows
-pub firsts : (xs : List ℕ) (j : ℕ) → j ≤ length xs → firstOf xs j ≡ width (take j xs)
-firsts xs zero h = first-none xs ∙ sym (width-none xs)
-firsts xs (suc j) h = omega (arith, first-next xs j, firsts xs j (omega arith), width-next xs j h)
-
-pub width-is : (d : Decl) (a : ℕ) → rowWidth d a ≡ width (sizesOf d a)
-width-is d a =
-    row-width d a ∙ firsts (sizesOf d a) (length (sizesOf d a)) (omega arith) ∙ ap width (take-length (sizesOf d a))
-
--- an archetype's cells lie in the buffer
-pub block-within : (d : Decl) (a : ℕ) → a < archetypes d → baseOf d a + rowsOf d a * width (sizesOf d a) ≤ baseOf d (archetypes d)
-block-within d a h =
-    let e : rowsOf d a * rowWidth d a ≡ rowsOf d a * width (sizesOf d a) = ap (λ (z : ℕ). rowsOf d a * z) (width-is d a) in
-    omega (arith, base-next d a, base-grows d (a + 1) (archetypes d) (omega arith))
 
 -- the width with columns put in, and without a column
 pub width-in-out : (at : ℕ) (ys xs : List ℕ) → width (putIn at ys xs) ≡ width xs + width ys

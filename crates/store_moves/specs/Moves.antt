@@ -14,8 +14,9 @@ use Rattle.id_tables.specs.Ids.{live, placed}
 use Rattle.decl.specs.Decl.{Decl, rowsOf, typesOf, sizesOf, sizeOf}
 use Rattle.cells.specs.Line.{width, rowBytes}
 use Rattle.row_step.specs.Tables.{Rows, countOf, lineIn}
+use Rattle.column_entry.specs.Entry.{blockIn}
 use Rattle.store_tables.specs.Store.{Store, withIds}
-use Rattle.store_tables.specs.Rows.{blockAt, archetypeOf, rowOf, owns, movedDamaged, seated, vacated}
+use Rattle.store_tables.specs.Rows.{archetypeOf, rowOf, owns, movedDamaged, seated, vacated}
 use Rattle.store_moves.specs.Lists.{putIn, takenOut}
 use Rattle.store_moves.specs.Target.{typesBefore}
 
@@ -37,7 +38,7 @@ moveRules s n b =
 
 -- the bytes of row r of archetype a, in column order
 unfoldable pub rowRun : Decl → Rows → ℕ → ℕ → List ℕ
-rowRun d w a r = rowBytes (w .bytes) (lineIn (blockAt d a) r) (sizesOf d a)
+rowRun d w a r = rowBytes (w .bytes) (lineIn (blockIn d a) r) (sizesOf d a)
 
 -- where column j begins in them
 unfoldable pub runStart : Decl → ℕ → ℕ → ℕ

@@ -4,7 +4,7 @@ use mathlib.Core.Bool.{not}
 use mathlib.Core.List.{List, [], _∷_}
 use mathlib.Core.Option.{Option, none, some}
 use lib.Dec.{leb}
-use lib.ListN.{getD, set}
+use lib.ListN.{getD, set, take, drop}
 use Rattle.refusal.specs.Number.{numberOf}
 use Rattle.refusal.specs.Table.{Rule, _when_, Answer, granted, refused, _orElse_}
 use Rattle.handle.specs.declared.Place.{Place}
@@ -52,10 +52,14 @@ moveSeen first used rows archetypes indices numbers counts words a r b =
 abbrev pub afterOf : List ℕ → ℕ → Line
 afterOf before size = lineTold (nextOf (lineTold (pastOf runLine before)) size)
 
--- a buffer with a row's bytes in it, a value between its columns before and those after
-unfoldable pub gathered : List ℕ → List ℕ → Line → List ℕ → ℕ → List ℕ → Line → List ℕ → List ℕ
-gathered out b row before size value rest after =
+-- a buffer with a value between the bytes of a row's columns before and those after
+unfoldable pub joined : List ℕ → List ℕ → Line → List ℕ → ℕ → List ℕ → Line → List ℕ → List ℕ
+joined out b row before size value rest after =
     transferred b rest (written (transferred b row out runLine before) (lineTold (pastOf runLine before) .start) value) (afterOf before size) after
+
+-- a buffer with the bytes of a row of columns of these sizes, a value in the stead of those from `column` to `past`
+unfoldable pub gathered : List ℕ → List ℕ → Line → List ℕ → ℕ → ℕ → ℕ → List ℕ → List ℕ
+gathered out b row sizes column past size value = joined out b row (take column sizes) size value (lineTold (pastOf row (take past sizes))) (drop past sizes)
 
 -- number n's row at place (a, r) moved to the first unused row of archetype b, with a run of bytes, and its place written
 unfoldable pub movedSeats : Block → List ℕ → Block → List ℕ → Seats → ℕ → ℕ → ℕ → ℕ → List ℕ → Seats

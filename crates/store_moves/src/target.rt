@@ -88,7 +88,7 @@ fn is_with(xs: &[u32], place: usize, x: u32, ys: &[u32]) -> bool
     is_without(ys, k, xs)
 }
 
-fn least(a: usize, b: usize) -> usize
+pub(crate) fn least(a: usize, b: usize) -> usize
     ensures { λ r. ⌜ r ≡ min a b ⌝ }
 {
     if a < b {

@@ -3,19 +3,18 @@ use borrow_word::any_held;
 use decl::Span;
 use handle::Handle;
 use handle::Place;
-use handle::Row;
 use id_tables::Head;
 use id_tables::at;
 use id_tables::is_live;
+use id_tables::place_at;
 use refusal::Refusal;
 use refusal::Tested;
 use store_tables::Own;
 use store_tables::is_moved_damaged;
 use store_tables::own_place;
 ghost use mathlib.Core.Path.{_≡_};
-ghost use lib.ListN.{getD};
 ghost use Rattle.refusal.specs.Table.{testOf, passing};
-ghost use Rattle.handle.specs.Bits.{generationIn, numberIn, placeOf};
+ghost use Rattle.handle.specs.Bits.{generationIn, numberIn};
 ghost use Rattle.id_tables.specs.Ids.{idsOf};
 ghost use Rattle.decl.specs.Decl.{declOf};
 ghost use Rattle.store_moves.specs.Steps.{entitySeen, entityOf, moveSeen};
@@ -24,16 +23,6 @@ ghost use Rattle.store_moves.specs.Steps.{entitySeen, entityOf, moveSeen
 pub enum Entity {
     At(Span, Place),
     Refused(Refusal),
-}
-
-// The place of a number.
-fn place_at(archetypes: &[u32], indices: &[u32], number: usize) -> Place
-    ensures { λ r. ⌜ r ≡ placeOf (getD (now (archetypes .entry)) number 0) (getD (now (indices .entry)) number 0) ⌝ }
-{
-    Place {
-        archetype: at(archetypes, number),
-        index: Row(at(indices, number)),
-    }
 }
 
 // The entity of a handle, where its components may change.

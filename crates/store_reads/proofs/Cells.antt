@@ -1,37 +1,29 @@
 -- Where an archetype's columns and cells are in the lent tables.
 -- Assumes nothing.
-use Prim.Native.Nat.{ℕ, zero, suc, _+_, _-_, _*_, _≤_, _<_}
+use Prim.Native.Nat.{ℕ, _+_, _-_, _≤_, _<_}
 use mathlib.Core.List.{List}
-use mathlib.Core.Path.{_≡_, refl, sym, ap, _∙_}
+use mathlib.Core.Path.{_≡_, sym, ap, _∙_}
 use native.Mathlib.Omega.{arith}
 use lib.ListN.{length, getD, take, drop}
 use lib.Seq.{take-take}
-use Rattle.refusal.specs.Table.{Answer, granted, refused}
-use Rattle.decl.specs.Lists.{firstOf}
+use Rattle.refusal.specs.Table.{granted, refused}
 use Rattle.decl.specs.Decl.{Decl, archetypes, rowsOf, widthOf, firstColumn, typesOf, sizesOf, sizeOf}
-use Rattle.decl.specs.Places.{baseOf, columnStart, cellStart, spanOf}
+use Rattle.decl.specs.Places.{baseOf, cellStart, spanOf}
 use Rattle.decl.specs.Lookup.{columnOf, searched}
 use Rattle.decl.specs.declared.Column.{Column}
 use Rattle.decl.specs.declared.Column.the-variants.{At, Missing}
 use Rattle.decl.specs.declared.Span.{Span}
-use Rattle.decl.proofs.Lists.{first-none, first-next}
 use Rattle.decl.proofs.Search.{Stands, column-stands, searched-rising}
 use Rattle.decl.proofs.Keeping.{types-length, sizes-length, size-at}
 use Rattle.decl.proofs.Placing.{base-grows, column-within, cell-within, total-in}
 use Rattle.decl.proofs.Lending.{columns-in, types-lent, sizes-lent, column-start, cell-start}
-use Rattle.cells.specs.Line.{lineOf, cellOf, pastOf, width, told, lineTold}
+use Rattle.cells.specs.Line.{lineOf, cellOf, pastOf, told, lineTold}
 use Rattle.cells.specs.declared.Line.{Line}
 use Rattle.cells.proofs.Lines.{told-fits, cell-told}
 use Rattle.cells.proofs.Rows.{past-line}
-use Rattle.cells.proofs.Blocks.{width-none, width-next}
+use Rattle.column_entry.proofs.Widths.{firsts}
 use Rattle.column_entry.specs.Kept.{Kept}
-use Rattle.store_reads.specs.declared.component.Cell.{Cell}
 use Rattle.store_reads.specs.Component.{columnCell}
-
--- the declaration's sums are the widths of a line's columns
-firsts : (xs : List ℕ) (j : ℕ) → j ≤ length xs → firstOf xs j ≡ width (take j xs)
-firsts xs zero h = first-none xs ∙ sym (width-none xs)
-firsts xs (suc j) h = omega (arith, first-next xs j, firsts xs j (omega arith), width-next xs j h)
 
 -- a type that an archetype has stands at one of its columns
 pub column-in : (d : Decl) (a t j : ℕ) → Kept d → columnOf (typesOf d a) t ≡ At j → j < widthOf d a

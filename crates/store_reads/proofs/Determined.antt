@@ -1,24 +1,19 @@
 -- The contracts determine the results and what is left: no second one fits. One instance a function, under its name.
 -- Assumes nothing.
-use Prim.{Unit}
 use Prim.Native.Nat.{ℕ}
-use mathlib.Core.Path.{_≡_, refl, sym, ap, _∙_}
+use mathlib.Core.Path.{_≡_, sym, ap, _∙_}
 use mathlib.Core.List.{List}
 use Rattle.refusal.specs.Table.{Answer, testOf, Did}
 use Rattle.refusal.specs.Laws.{sole-answer, sole}
 use Rattle.refusal.specs.Distinct.{number-inj, tested-tells}
 use Rattle.refusal.specs.declared.Tested.{Tested}
-use Rattle.handle.specs.RoundTrip.{same-handle}
 use Rattle.handle.specs.declared.Number.{Number}
 use Rattle.borrow_word.specs.Word.{sharedWord, uniqueWord, releasedWord, uniqueReleasedWord}
+use Rattle.id_tables.proofs.Determined.{contained-tells, found-tells, resolved-tells, counted-tells}
 use Rattle.id_tables.specs.declared.lookup.Contained.{Contained}
-use Rattle.id_tables.specs.declared.lookup.Contained.the-variants as contained
 use Rattle.id_tables.specs.declared.lookup.Found.{Found}
-use Rattle.id_tables.specs.declared.lookup.Found.the-variants as found
 use Rattle.id_tables.specs.declared.lookup.Resolved.{Resolved}
-use Rattle.id_tables.specs.declared.lookup.Resolved.the-variants as resolved
 use Rattle.id_tables.specs.declared.lookup.Counted.{Counted}
-use Rattle.id_tables.specs.declared.lookup.Counted.the-variants as counted
 use Rattle.id_tables.specs.Lookup.{foundOf, containedOf, resolvedOf, countedOf}
 use Rattle.row_step.specs.Tables.{tablesOf}
 use Rattle.store_tables.specs.Store.{Store, withRows, withWords}
@@ -35,30 +30,6 @@ part-tells (part.At a b) (part.At c d) e = let p : _≡_ {A = ℕ × ℕ} (a, b)
 part-tells (part.At a b) (part.Refused y) e = cc
 part-tells (part.Refused x) (part.At c d) e = cc
 part-tells (part.Refused x) (part.Refused y) e = ap part.Refused (number-inj x y (cc))
-
-found-tells : (r s : Found) → foundOf r ≡ foundOf s → r ≡ s
-found-tells (found.At a) (found.At b) e = ap found.At (cc)
-found-tells (found.At a) (found.Refused y) e = cc
-found-tells (found.Refused x) (found.At b) e = cc
-found-tells (found.Refused x) (found.Refused y) e = ap found.Refused (number-inj x y (cc))
-
-contained-tells : (r s : Contained) → containedOf r ≡ containedOf s → r ≡ s
-contained-tells (contained.Is a) (contained.Is b) e = ap contained.Is (cc)
-contained-tells (contained.Is a) (contained.Refused y) e = cc
-contained-tells (contained.Refused x) (contained.Is b) e = cc
-contained-tells (contained.Refused x) (contained.Refused y) e = ap contained.Refused (number-inj x y (cc))
-
-resolved-tells : (r s : Resolved) → resolvedOf r ≡ resolvedOf s → r ≡ s
-resolved-tells (resolved.Entity a) (resolved.Entity b) e = ap resolved.Entity (same-handle a b (cc))
-resolved-tells (resolved.Entity a) (resolved.Refused y) e = cc
-resolved-tells (resolved.Refused x) (resolved.Entity b) e = cc
-resolved-tells (resolved.Refused x) (resolved.Refused y) e = ap resolved.Refused (number-inj x y (cc))
-
-counted-tells : (r s : Counted) → countedOf r ≡ countedOf s → r ≡ s
-counted-tells (counted.Count a) (counted.Count b) e = ap counted.Count (cc)
-counted-tells (counted.Count a) (counted.Refused y) e = cc
-counted-tells (counted.Refused x) (counted.Count b) e = cc
-counted-tells (counted.Refused x) (counted.Refused y) e = ap counted.Refused (number-inj x y (cc))
 
 -- the calls that change nothing lent
 module _ (s : Store) where

@@ -7,7 +7,7 @@ use mathlib.Core.Bool.{true}
 use mathlib.Core.List.{List}
 use mathlib.Core.Option.{Option, none, some}
 use Rattle.refusal.specs.Table.{Answer, granted, refused, passing, Did}
-use Rattle.refusal.specs.Laws.{not-refused, grant, passed-all, value-of}
+use Rattle.refusal.specs.Laws.{not-refused, grant, passed-all, value-of, stops}
 use Rattle.handle.specs.declared.Place.{Place}
 use Rattle.id_tables.specs.Ids.{idsOf, placeAt}
 use Rattle.decl.specs.Decl.{archetypes, widthOf, typesOf, sizesOf}
@@ -17,9 +17,10 @@ use Rattle.decl.specs.declared.Column.the-variants.{At, Missing}
 use Rattle.decl.specs.Places.{spanOf}
 use Rattle.decl.specs.declared.Span.{Span}
 use Rattle.row_step.specs.Tables.{Rows}
+use Rattle.column_entry.specs.Entry.{blockIn}
 use Rattle.store_steps.specs.Seats.{seatsOf}
 use Rattle.store_tables.specs.Store.{Store, storeOf}
-use Rattle.store_tables.specs.Rows.{blockAt, archetypeOf, rowOf, owns}
+use Rattle.store_tables.specs.Rows.{archetypeOf, rowOf, owns}
 use Rattle.store_tables.specs.Kept.{Entered}
 use Rattle.store_tables.proofs.Places.{owns-means}
 use Rattle.store_moves.specs.Target.{targetOf, withoutType}
@@ -28,7 +29,7 @@ use Rattle.store_moves.specs.Steps.{movedSeats}
 use Rattle.store_moves.specs.Kept.{Moving}
 use Rattle.store_moves.proofs.Seeking.{target-means}
 use Rattle.store_moves.proofs.Targets.{without-differs}
-use Rattle.store_moves.proofs.Entities.{MoveOk, move-ok, stops, into-none, into-refused, into-granted}
+use Rattle.store_moves.proofs.Entities.{MoveOk, move-ok, into-none, into-refused, into-granted}
 use Rattle.store_moves.proofs.Moving.{has-moved}
 use Rattle.store_moves.proofs.Owning.{column-in, moving}
 use Rattle.store_remove.specs.declared.Way.{Way}
@@ -102,7 +103,7 @@ module _ (s : Store) (e : Entered s) (n : ℕ) (span : Span) (p : span ≡ spanO
 
   pub has-left : (archetypes indices : List ℕ) (w : Rows)
       → seatsOf archetypes indices w
-      ≡ movedSeats (blockAt (s .decl) (place .archetype)) (sizesOf (s .decl) (place .archetype)) (blockAt (s .decl) b) (sizesOf (s .decl) b) (seatsOf (s .ids .archetypes) (s .ids .indices) (s .rows)) (place .archetype) (place .index .0) b n
+      ≡ movedSeats (blockIn (s .decl) (place .archetype)) (sizesOf (s .decl) (place .archetype)) (blockIn (s .decl) b) (sizesOf (s .decl) b) (seatsOf (s .ids .archetypes) (s .ids .indices) (s .rows)) (place .archetype) (place .index .0) b n
       (runWithout (s .decl) (s .rows) (place .archetype) (place .index .0) j)
       → Did (removedAt s n c) s (granted tt) (storeOf (s .decl) (idsOf (s .ids .head) (s .ids .generations) archetypes indices (s .ids .pending)) w (s .words))
   unfolding removedAt

@@ -18,10 +18,11 @@ use Rattle.cells.proofs.Rows.{Within, length-row}
 use Rattle.cells.proofs.Blocks.{within-block, width-take, width-all}
 use Rattle.cells.proofs.Runs.{run-cell}
 use Rattle.row_step.specs.Tables.{Rows, lineIn}
+use Rattle.column_entry.proofs.Widths.{row-wide, line-cell, block-in}
+use Rattle.column_entry.specs.Entry.{blockIn}
 use Rattle.column_entry.specs.Kept.{Ready}
-use Rattle.columns.specs.Calls.{blockIn, heldAt}
+use Rattle.columns.specs.Calls.{heldAt}
 use Rattle.columns.proofs.Cells.{held-is}
-use Rattle.columns.proofs.Places.{row-wide, line-cell, block-in}
 use Rattle.store_moves.specs.Lists.{putIn, takenOut}
 use Rattle.store_moves.specs.Target.{typesBefore}
 use Rattle.store_moves.specs.Moves.{runWith, runWithout}

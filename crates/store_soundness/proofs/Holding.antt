@@ -22,10 +22,11 @@ use Rattle.cells.proofs.Rows.{Within, transferred-apart, cell-at}
 use Rattle.cells.proofs.Blocks.{width-take}
 use Rattle.row_step.specs.Tables.{Rows, countOf, lastOf, lineIn}
 use Rattle.row_step.proofs.Held.{same-or-not}
+use Rattle.column_entry.proofs.Widths.{row-wide, line-cell}
+use Rattle.column_entry.specs.Entry.{blockIn}
 use Rattle.column_entry.specs.Kept.{Ready}
-use Rattle.columns.specs.Calls.{blockIn, heldAt, removedFrom}
+use Rattle.columns.specs.Calls.{heldAt, removedFrom}
 use Rattle.columns.proofs.Cells.{held-is}
-use Rattle.columns.proofs.Places.{row-wide, line-cell}
 use Rattle.columns.proofs.Moving.{Run, whole-from, transferredTo, transferred-held}
 use Rattle.columns.proofs.Held.{cells-part, appended-held, removed-row, removed-kept}
 use Rattle.store_steps.specs.Seats.{seatedRows}

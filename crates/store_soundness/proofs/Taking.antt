@@ -11,8 +11,9 @@ use Rattle.decl.specs.Decl.{Decl, archetypes, rowsOf, sizesOf}
 use Rattle.cells.specs.Line.{runLine}
 use Rattle.cells.proofs.Rows.{length-transferred}
 use Rattle.row_step.specs.Tables.{Rows, tablesOf, countOf, lineIn}
+use Rattle.column_entry.specs.Entry.{blockIn}
 use Rattle.column_entry.specs.Kept.{Ready}
-use Rattle.columns.specs.Calls.{blockIn, appendedTo}
+use Rattle.columns.specs.Calls.{appendedTo}
 use Rattle.columns.proofs.Held.{appended-number, appended-others, appended-count, appended-counts-kept, appended-ready}
 use Rattle.store_steps.specs.Seats.{filled, seatedRows}
 use Rattle.store_steps.proofs.Laws.{seated-rows}

@@ -1,16 +1,15 @@
 -- The step of a spawn: the id layer gives the next number, which no rule forbids then, and that number takes the row.
 -- Assumes nothing.
 use Prim.{tt}
-use Prim.Native.Nat.{ℕ, _+_, _-_, _≤_}
+use Prim.Native.Nat.{ℕ, _-_}
 use native.Mathlib.Omega.{arith}
 use mathlib.Core.Path.{_≡_, refl, sym, ap, _∙_}
-use mathlib.Core.Bool.{Bool}
-use mathlib.Core.List.{List, _++_}
-use lib.ListN.{length, getD, take, drop}
-use Rattle.refusal.specs.Table.{Rule, Answer, granted, refused, _orElse_, passing, valueOf, leftOf, Did}
+use mathlib.Core.List.{List}
+use lib.ListN.{getD}
+use Rattle.refusal.specs.Table.{Answer, granted, refused, passing, valueOf, leftOf, Did}
 use Rattle.refusal.specs.Laws.{grant, stop, go, halted, past, did-refused, not-refused}
 use Rattle.refusal.specs.declared.Refusal.{Refusal}
-use Rattle.handle.specs.Bits.{bitsOf, numberIn, placeOf}
+use Rattle.handle.specs.Bits.{numberIn, placeOf}
 use Rattle.handle.specs.RoundTrip.{number-back}
 use Rattle.handle.specs.declared.Handle.{Handle}
 use Rattle.id_tables.specs.declared.head.Head.{Head}
@@ -19,33 +18,26 @@ use Rattle.ids.specs.declared.Given.{Given}
 use Rattle.ids.specs.declared.Given.the-variants.{Entity, Refused}
 use Rattle.ids.specs.Answers.{givenOf, givenHead}
 use Rattle.ids.specs.Alloc.{allocating}
-use Rattle.ids.proofs.Laws.{Alloced, allocating-at, alloc-leaves}
-use Rattle.decl.specs.Decl.{archetypes, sizesOf}
+use Rattle.ids.proofs.Laws.{allocating-at, alloc-leaves}
+use Rattle.decl.specs.Decl.{sizesOf}
 use Rattle.decl.specs.Places.{spanOf}
 use Rattle.decl.specs.declared.Span.{Span}
-use Rattle.row_step.specs.Tables.{Rows, countOf, blockOf}
-use Rattle.column_entry.specs.Entry.{spanIn}
+use Rattle.row_step.specs.Tables.{Rows, countOf}
+use Rattle.column_entry.specs.Entry.{spanIn, blockIn}
 use Rattle.column_entry.proofs.Keeping.{span-kept}
+use Rattle.store_steps.proofs.Laws.{block-by, sizes-by}
+use Rattle.store_steps.specs.Parts.{blockBy, partBy}
 use Rattle.store_steps.specs.Seats.{seatedRows}
 use Rattle.store_tables.specs.Store.{Store, storeOf, entry}
-use Rattle.store_tables.specs.Rows.{blockAt, seated}
 use Rattle.store_tables.specs.Run.{runWrong}
 use Rattle.store_tables.specs.Kept.{Entered}
-use Rattle.store_tables.proofs.Entering.{entered}
-use Rattle.store_tables.proofs.Parts.{part-small, part-in, part-is, block-is}
 use Rattle.store_spawn.specs.Spawn.{nextNumber, nextIds, spawnRules, Spawnable, spawned, spawning}
-use Rattle.store_spawn.proofs.Laws.{SpawnOk, spawn-ok, can-alloc}
+use Rattle.store_spawn.proofs.Laws.{spawn-ok, can-alloc}
 
 same-value : (x y : ℕ) → granted x ≡ granted y → x ≡ y
 same-value x y e = cc
 
 module _ (s : Store) (a : ℕ) (e : Entered s) (k : Spawnable s a) (span : Span) (p : span ≡ spanOf (s .decl) a) where
-  pub sizes-small : span .column + span .columns ≤ 256
-  sizes-small = part-small s a e span p
-
-  pub sizes-in : span .column + span .columns ≤ length (s .decl .sizes)
-  sizes-in = part-in s a e span p
-
   -- what `alloc` said
   module _ (count : ℕ) (c : count ≡ getD (s .rows .counts) a 0) (said : Given) (g x y : List ℕ)
       (d : Did (allocating (s .ids) (placeOf a count)) (s .ids) (givenOf said) (idsOf (givenHead (s .ids .head) said) g x y (s .ids .pending))) where
@@ -56,9 +48,8 @@ module _ (s : Store) (a : ℕ) (e : Entered s) (k : Spawnable s a) (span : Span)
     gives-there r q = not-refused (sym allocable ∙ did-refused (allocating (s .ids) (placeOf a count)) (rw q at d) .0)
 
     -- and what `seat` left
-    module _ (handle : Handle) (head : Head) (q : said ≡ Entity handle head) (run : List ℕ) (number : ℕ) (i : number ≡ numberIn (handle .0)) (rows : ℕ)
-        (r : rows ≡ getD (s .decl .rows) a 0) (w : Rows)
-        (v : w ≡ seatedRows (blockOf (span .row) rows (span .base)) (take ((span .column + span .columns) - span .column) (drop (span .column) (s .decl .sizes))) (s .rows) a number run) where
+    module _ (handle : Handle) (head : Head) (q : said ≡ Entity handle head) (run : List ℕ) (number : ℕ) (i : number ≡ numberIn (handle .0)) (w : Rows)
+        (v : w ≡ seatedRows (blockBy (s .decl .rows) span a) (partBy (s .decl .sizes) span) (s .rows) a number run) where
       did : Did (allocating (s .ids) (placeOf a count)) (s .ids) (granted (handle .0)) (idsOf head g x y (s .ids .pending))
       did = rw q at d
 
@@ -76,8 +67,8 @@ module _ (s : Store) (a : ℕ) (e : Entered s) (k : Spawnable s a) (span : Span)
 
       pub has-spawned : Did (spawned s a run) s (granted (handle .0)) (storeOf (s .decl) (idsOf head g x y (s .ids .pending)) w (s .words))
       has-spawned =
-          let t : w ≡ seatedRows (blockAt (s .decl) a) (sizesOf (s .decl) a) (s .rows) a (nextNumber (s .ids)) run =
-          rw (part-is s a e span p, block-is s a e span p rows r, number-is) at v in
+          let t : w ≡ seatedRows (blockIn (s .decl) a) (sizesOf (s .decl) a) (s .rows) a (nextNumber (s .ids)) run =
+          rw (block-by (s .decl) a span p, sizes-by (s .decl) a span p, number-is) at v in
           rw (bits-are, ids-are, t) (grant refl)
 
 -- the tests, as the code has run them

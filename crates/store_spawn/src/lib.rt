@@ -9,7 +9,6 @@ use id_tables::is_damaged;
 use ids::Given;
 use refusal::Refusal;
 use refusal::Tested;
-use row_step::Block;
 use store_tables::is_run_wrong;
 ghost use mathlib.Core.Bool.{true};
 ghost use mathlib.Core.Path.{_≡_};
@@ -121,13 +120,6 @@ fn take_row(
     ensures { λ r. ⌜ Did (spawned (storeOf (declOf (now (rows .entry)) (now (widths .entry)) (now (types .entry)) (now (sizes .entry))) (idsOf head (now (generations .entry)) (now (archetypes .entry)) (now (indices .entry)) (now (pending .entry))) (tablesOf (now (numbers .entry)) (now (counts .entry)) (now (bytes .entry))) (now (words .entry))) archetype (now (run .entry))) (storeOf (declOf (now (rows .entry)) (now (widths .entry)) (now (types .entry)) (now (sizes .entry))) (idsOf head (now (generations .entry)) (now (archetypes .entry)) (now (indices .entry)) (now (pending .entry))) (tablesOf (now (numbers .entry)) (now (counts .entry)) (now (bytes .entry))) (now (words .entry))) (givenOf r) (storeOf (declOf (now (rows .entry)) (now (widths .entry)) (now (types .entry)) (now (sizes .entry))) (idsOf (givenHead head r) (now (generations .exit)) (now (archetypes .exit)) (now (indices .exit)) (now (pending .entry))) (tablesOf (now (numbers .exit)) (now (counts .exit)) (now (bytes .exit))) (now (words .entry))) ⌝ }
 {
     let a = archetype as usize;
-    let from = span.column;
-    let to = span.column + span.columns;
-    let block = Block {
-        first: span.row,
-        rows: at(rows, a),
-        base: span.base,
-    };
     let place = Place {
         archetype: archetype,
         index: Row(at(counts, a)),
@@ -143,11 +135,12 @@ fn take_row(
         return Given::Refused(Refusal::Damaged);
     };
     store_steps::seat(
+        rows,
+        sizes,
         numbers,
         counts,
         bytes,
-        block,
-        &sizes[from..to],
+        span,
         a,
         handle.id(),
         run,

@@ -1,13 +1,13 @@
 -- The steps of a spawn at: the old row leaves, and the id layer gives the number the row that it then takes, which no rule forbids.
 -- Assumes nothing.
 use Prim.{Unit, tt}
-use Prim.Native.Nat.{ℕ, _+_, _-_, _≤_}
+use Prim.Native.Nat.{ℕ, _-_}
 use native.Mathlib.Omega.{arith}
 use mathlib.Core.Path.{_≡_, refl, sym, ap, _∙_}
 use mathlib.Core.Bool.{false}
 use mathlib.Core.List.{List}
 use mathlib.Core.Option.{Option}
-use lib.ListN.{length, getD, take, drop}
+use lib.ListN.{getD}
 use Rattle.refusal.specs.Number.{numberOf}
 use Rattle.refusal.specs.Table.{Answer, granted, refused, passing, valueOf, leftOf, Did}
 use Rattle.refusal.specs.Laws.{past, halted}
@@ -29,36 +29,31 @@ use Rattle.ids.specs.Answers.{chosenOf, chosenHead}
 use Rattle.ids.specs.AllocAt.{allocatedAt, allocatingAt}
 use Rattle.ids.proofs.Passing.{ChosenOk}
 use Rattle.ids.proofs.Laws.{Undoubted, choosing-at}
-use Rattle.decl.specs.Decl.{rowsOf, sizesOf}
+use Rattle.decl.specs.Decl.{sizesOf}
 use Rattle.decl.specs.Places.{spanOf}
 use Rattle.decl.specs.declared.Span.{Span}
-use Rattle.row_step.specs.Tables.{Rows, countOf, blockOf}
-use Rattle.column_entry.specs.Entry.{spanIn}
+use Rattle.row_step.specs.Tables.{Rows, countOf}
+use Rattle.row_step.specs.declared.Block.{Block}
+use Rattle.column_entry.specs.Entry.{spanIn, blockIn}
 use Rattle.column_entry.proofs.Keeping.{span-kept}
+use Rattle.store_steps.proofs.Laws.{block-by, sizes-by}
+use Rattle.store_steps.specs.Parts.{blockBy, partBy}
 use Rattle.store_steps.specs.Seats.{Seats, seatsOf, vacatedSeats, seatedRows}
 use Rattle.store_tables.specs.Store.{Store, storeOf}
-use Rattle.store_tables.specs.Rows.{blockAt, archetypeOf, rowOf}
+use Rattle.store_tables.specs.Rows.{archetypeOf, rowOf}
 use Rattle.store_tables.specs.Kept.{Entered}
 use Rattle.store_tables.proofs.Places.{owns-means, vacating}
-use Rattle.store_tables.proofs.Parts.{part-small, part-in, part-is, block-is}
 use Rattle.store_spawn_at.specs.declared.Standing.{Standing}
 use Rattle.store_spawn_at.specs.declared.Standing.the-variants.{Free, Damaged, Seated, Astray}
 use Rattle.store_spawn_at.specs.declared.Choice.{Choice}
 use Rattle.store_spawn_at.specs.declared.Choice.the-variants as choice
 use Rattle.store_spawn_at.specs.SpawnAt.{chosenLive, withoutOld, spawnAtRules, rowTaken, spawnedAt}
-use Rattle.store_spawn_at.specs.Seen.{Stands, Chooses, astray, PartIn, clearedSeats, doneBy}
+use Rattle.store_spawn_at.specs.Seen.{Stands, Chooses, astray, clearedSeats, Reseats, Settles, doneBy}
 use Rattle.store_spawn_at.proofs.Laws.{SpawnAtOk, spawn-at-ok, old-left, none-left, way-made, can-choose, still-undoubted}
 use Rattle.store_spawn_at.proofs.Testing.{differ, not-astray}
 
 -- the way that is made: a live number's old row leaves, of another number none
 module _ (s : Store) (n : ℕ) (e : Entered s) where
-  pub part-of : (st : Standing) → Stands s n st → PartIn (s .decl .sizes) st
-  unfolding Stands PartIn
-  part-of Free k = tt
-  part-of Damaged k = tt
-  part-of (Seated span place) k = (part-small s (archetypeOf s n) e span (k .2), part-in s (archetypeOf s n) e span (k .2))
-  part-of Astray k = tt
-
   module _ (archetypes indices : List ℕ) (w : Rows) where
     abbrev after : Store
     after = storeOf (s .decl) (idsOf (s .ids .head) (s .ids .generations) archetypes indices (s .ids .pending)) w (s .words)
@@ -76,23 +71,31 @@ module _ (s : Store) (n : ℕ) (e : Entered s) where
     way-is Damaged k q p = none-leaves p (k .0)
     way-is (Seated span place) k q p =
         let a = archetypeOf s n in
-        let r : getD (s .decl .rows) (place .archetype) 0 ≡ rowsOf (s .decl) a = rw (k .3) in
         vacating s a (rowOf s n) archetypes indices w (owns-means s n (k .1) .row-in) (e .rows .counts-in a)
-        (rw (part-is s a e span (k .2), block-is s a e span (k .2) _ r, k .3) at p)
+        (p ∙ rw (k .3, block-by (s .decl) a span (k .2), sizes-by (s .decl) a span (k .2)))
         ∙ sym (old-left s n (k .0))
     way-is Astray k q p = absurd (differ q)
 
--- what `make_way` needs and does
-pub old-fits : (sizes : List ℕ) (st : Standing) (span : Span) (place : Place) → PartIn sizes st → st ≡ Seated span place
-    → (span .column + span .columns ≤ 256) × (span .column + span .columns ≤ length sizes)
-unfolding PartIn
-old-fits sizes st span place k p = rw p at k
-
-pub old-leaves : (rows sizes : List ℕ) (t u : Seats) (st : Standing) (span : Span) (place : Place) (r : ℕ) → st ≡ Seated span place → r ≡ getD rows (place .archetype) 0
-    → u ≡ vacatedSeats (blockOf (span .row) r (span .base)) (take ((span .column + span .columns) - span .column) (drop (span .column) sizes)) t (place .archetype) (place .index .0)
-    → u ≡ clearedSeats rows sizes t st
+-- what `make_way`, `reseat` and `settle` do
+pub old-leaves : (rows sizes : List ℕ) (t u : Seats) (st : Standing) (span : Span) (place : Place) → st ≡ Seated span place
+    → u ≡ vacatedSeats (blockBy rows span (place .archetype)) (partBy sizes span) t (place .archetype) (place .index .0) → u ≡ clearedSeats rows sizes t st
 unfolding clearedSeats
-old-leaves rows sizes t u st span place r p e v = rw (p, ← e) v
+old-leaves rows sizes t u st span place p v = rw p v
+
+module _ (k : Block) (sizes : List ℕ) (t : Seats) (a : ℕ) (run : List ℕ) where
+  pub reseats : (n : ℕ) (archetypes indices : List ℕ) (v w : Rows) (count : ℕ) → seatsOf archetypes indices v ≡ t → count ≡ getD (v .counts) a 0
+      → w ≡ seatedRows k sizes v a n run → Reseats k sizes t a n run (placeOf a count) (seatsOf archetypes indices w)
+  reseats n archetypes indices v w count e c q = rw (← e) (record { seats-are = rw q; place-is = rw c })
+
+  pub settles : (n bits h : ℕ) (archetypes indices generations pending : List ℕ) (w : Rows) (place : Place) (head : Head) (said : Chosen) (i : Ids)
+      → Reseats k sizes t a n run place (seatsOf archetypes indices w) → n ≡ numberIn h → bits ≡ h
+      → Did (allocatingAt (idsOf head generations archetypes indices pending) bits place) (idsOf head generations archetypes indices pending) (chosenOf said) i
+      → Settles k sizes t head generations pending a h run said i w
+  settles n bits h archetypes indices generations pending w place head said i q en eb d =
+      let x : archetypes ≡ t .archetypes = ap (λ (u : Seats). u .archetypes) (q .seats-are) in
+      let y : indices ≡ t .indices = ap (λ (u : Seats). u .indices) (q .seats-are) in
+      let z : w ≡ seatedRows k sizes (t .rows) a n run = ap (λ (u : Seats). u .rows) (q .seats-are) in
+      record { settles = rw (x, y, q .place-is, eb) at d; rows-are = rw en at z }
 
 -- what the id layer's answer says, and the head that it hands back
 said-done : (said : Chosen) {o : Option Place} → chosenOf said ≡ granted o → doneOf (doneBy said) ≡ granted tt
@@ -111,21 +114,19 @@ module _ (s : Store) (h a : ℕ) (e : Entered s) (nz : generationIn h ≡ 0 → 
   abbrev settled : Option Place × Ids
   settled = allocatedAt (s .ids) (placeOf a (countOf (s .rows) a)) (generationIn h) (numberIn h)
 
-  -- what `seat` and `alloc_at` left
-  has-taken : (span : Span) → span ≡ spanOf (s .decl) a → (run : List ℕ) (number rows count bits : ℕ) (w : Rows) (said : Chosen) (r : Done) (g x y q : List ℕ)
-      → rows ≡ getD (s .decl .rows) a 0 → count ≡ getD (s .rows .counts) a 0 → number ≡ numberIn h → bits ≡ h
-      → w ≡ seatedRows (blockOf (span .row) rows (span .base)) (take ((span .column + span .columns) - span .column) (drop (span .column) (s .decl .sizes))) (s .rows) a number run
-      → Did (allocatingAt (s .ids) bits (placeOf a count)) (s .ids) (chosenOf said) (idsOf (chosenHead (s .ids .head) said) g x y q)
+  has-taken : (span : Span) → span ≡ spanOf (s .decl) a → (run : List ℕ) (w : Rows) (said : Chosen) (r : Done) (g x y q : List ℕ)
+      → w ≡ seatedRows (blockBy (s .decl .rows) span a) (partBy (s .decl .sizes) span) (s .rows) a (numberIn h) run
+      → Did (allocatingAt (s .ids) h (placeOf a (countOf (s .rows) a))) (s .ids) (chosenOf said) (idsOf (chosenHead (s .ids .head) said) g x y q)
       → r ≡ doneBy said
       → Did (rowTaken s a run (generationIn h) (numberIn h)) s (doneOf r) (storeOf (s .decl) (idsOf (headAfter (s .ids .head) r) g x y q) w (s .words))
-  has-taken span p run number rows count bits w said r g x y q er ec en eb ew d ed =
-      let allows : allocatingAt (s .ids) bits (placeOf a count) ≡ granted settled =
-      rw (eb, ec) (choosing-at (s .ids) (placeOf a (countOf (s .rows) a)) h (record { passes = sym (ok-passes (s .ids) (e .ids)); nonzero = nz }) c u) in
+  has-taken span p run w said r g x y q ew d ed =
+      let allows : allocatingAt (s .ids) h (placeOf a (countOf (s .rows) a)) ≡ granted settled =
+      choosing-at (s .ids) (placeOf a (countOf (s .rows) a)) h (record { passes = sym (ok-passes (s .ids) (e .ids)); nonzero = nz }) c u in
       let answers : chosenOf said ≡ granted (settled .0) = d .answer ∙ ap (λ (z : Answer (Option Place × Ids)). valueOf z) allows in
       let ids : idsOf (headAfter (s .ids .head) r) g x y q ≡ settled .1 =
       rw (ed, said-head (s .ids .head) said) (d .leaves ∙ ap (λ (z : Answer (Option Place × Ids)). leftOf z (s .ids)) allows) in
-      let seats : w ≡ seatedRows (blockAt (s .decl) a) (sizesOf (s .decl) a) (s .rows) a (numberIn h) run =
-      rw (part-is s a e span p, block-is s a e span p rows er, en) at ew in
+      let seats : w ≡ seatedRows (blockIn (s .decl) a) (sizesOf (s .decl) a) (s .rows) a (numberIn h) run =
+      rw (block-by (s .decl) a span p, sizes-by (s .decl) a span p) at ew in
       record { answer = ap doneOf ed ∙ said-done said answers; leaves = rw (ids, seats) }
 
 -- the tests of the number, as the code has run them
@@ -183,34 +184,23 @@ module _ (s : Store) (a n : ℕ) (e : Entered s) (k : SpawnAtOk s a n) (t : Stor
 
 module _ (s : Store) (h a : ℕ) (e : Entered s) (nz : generationIn h ≡ 0 → ⊥) (st : Standing) (k : Chooses s a (numberIn h) (choice.Granted st)) (span : Span)
     (p : span ≡ spanOf (s .decl) a) where
-  pub old-part : PartIn (s .decl .sizes) st
-  old-part = part-of s (numberIn h) e st (stands s a (numberIn h) st k)
+  abbrev cleared : Seats
+  cleared = clearedSeats (s .decl .rows) (s .decl .sizes) (seatsOf (s .ids .archetypes) (s .ids .indices) (s .rows)) st
 
-  pub sizes-small : span .column + span .columns ≤ 256
-  sizes-small = part-small s a e span p
+  abbrev t : Store
+  t = storeOf (s .decl) (idsOf (s .ids .head) (s .ids .generations) (cleared .archetypes) (cleared .indices) (s .ids .pending)) (cleared .rows) (s .words)
 
-  pub sizes-in : span .column + span .columns ≤ length (s .decl .sizes)
-  sizes-in = part-in s a e span p
+  way : t ≡ withoutOld s (numberIn h)
+  way = way-is s (numberIn h) e (cleared .archetypes) (cleared .indices) (cleared .rows) st (stands s a (numberIn h) st k) (no-stray s a (numberIn h) st k) refl
 
-  -- what `make_way` left
-  module _ (x y : List ℕ) (w : Rows) (v : seatsOf x y w ≡ clearedSeats (s .decl .rows) (s .decl .sizes) (seatsOf (s .ids .archetypes) (s .ids .indices) (s .rows)) st) where
-    abbrev t : Store
-    t = storeOf (s .decl) (idsOf (s .ids .head) (s .ids .generations) x y (s .ids .pending)) w (s .words)
-
-    way : t ≡ withoutOld s (numberIn h)
-    way = way-is s (numberIn h) e x y w st (stands s a (numberIn h) st k) (no-stray s a (numberIn h) st k) v
-
-    -- and `seat` and `alloc_at` then
-    pub has-settled : (run : List ℕ) (number rows count bits : ℕ) (w′ : Rows) (said : Chosen) (r : Done) (g x′ y′ q : List ℕ)
-        → rows ≡ getD (s .decl .rows) a 0 → count ≡ getD (w .counts) a 0 → number ≡ numberIn h → bits ≡ h
-        → w′ ≡ seatedRows (blockOf (span .row) rows (span .base)) (take ((span .column + span .columns) - span .column) (drop (span .column) (s .decl .sizes))) w a number run
-        → Did (allocatingAt (t .ids) bits (placeOf a count)) (t .ids) (chosenOf said) (idsOf (chosenHead (s .ids .head) said) g x′ y′ q)
-        → r ≡ doneBy said
-        → Did (rowTaken (withoutOld s (numberIn h)) a run (generationIn h) (numberIn h)) s (doneOf r) (storeOf (s .decl) (idsOf (headAfter (s .ids .head) r) g x′ y′ q) w′ (s .words))
-    has-settled run number rows count bits w′ said r g x′ y′ q er ec en eb ew d ed =
-        let f = ok s a (numberIn h) st k in
-        has-spawned s a (numberIn h) e f t way run (generationIn h)
-        (has-taken t h a (enters s a (numberIn h) e f t way) nz (may-choose s a (numberIn h) e f t way) (no-doubt s a (numberIn h) e f t way) span p run number rows count bits w′ said r g x′ y′ q er ec en eb ew d ed)
+  pub has-settled : (run : List ℕ) (w : Rows) (said : Chosen) (r : Done) (g x y q : List ℕ)
+      → Settles (blockBy (s .decl .rows) span a) (partBy (s .decl .sizes) span) cleared (s .ids .head) (s .ids .generations) (s .ids .pending) a h run said (idsOf (chosenHead (s .ids .head) said) g x y q) w
+      → r ≡ doneBy said
+      → Did (rowTaken (withoutOld s (numberIn h)) a run (generationIn h) (numberIn h)) s (doneOf r) (storeOf (s .decl) (idsOf (headAfter (s .ids .head) r) g x y q) w (s .words))
+  has-settled run w said r g x y q l ed =
+      let f = ok s a (numberIn h) st k in
+      has-spawned s a (numberIn h) e f t way run (generationIn h)
+      (has-taken t h a (enters s a (numberIn h) e f t way) nz (may-choose s a (numberIn h) e f t way) (no-doubt s a (numberIn h) e f t way) span p run w said r g x y q (l .rows-are) (l .settles) ed)
 
 pub handle-nonzero : (b : ℕ) (r : Bits) (h : Handle) → answerOf r ≡ fromBits b → r ≡ Good h → generationIn (h .0) ≡ 0 → ⊥
 handle-nonzero b r h a p = from-bits-nonzero b h (sym (ap answerOf p) ∙ a)

@@ -1,22 +1,28 @@
 -- What the tests of a spawn at find of the chosen number, and how its steps hand it on.
-use Prim.{Unit, tt}
-use Prim.Native.Nat.{ℕ, _+_, _-_, _≤_}
+use Prim.{tt}
+use Prim.Native.Nat.{ℕ}
 use mathlib.Core.Path.{_≡_}
 use mathlib.Core.Bool.{Bool, true, false, not, _&&_}
 use mathlib.Core.List.{List}
 use lib.Dec.{leb, eqb}
-use lib.ListN.{length, getD, take, drop}
+use lib.ListN.{getD}
 use Rattle.refusal.specs.Number.{numberOf}
-use Rattle.refusal.specs.Table.{granted, refused, passing}
+use Rattle.refusal.specs.Table.{granted, refused, passing, Did}
+use Rattle.handle.specs.Bits.{placeOf, numberIn}
+use Rattle.handle.specs.declared.Place.{Place}
+use Rattle.id_tables.specs.declared.head.Head.{Head}
 use Rattle.id_tables.specs.declared.lookup.Done.{Done}
 use Rattle.id_tables.specs.declared.lookup.Done.the-variants as done
-use Rattle.id_tables.specs.Ids.{placeAt}
+use Rattle.id_tables.specs.Ids.{Ids, idsOf, placeAt}
 use Rattle.ids.specs.declared.Chosen.{Chosen}
 use Rattle.ids.specs.declared.Chosen.the-variants as chosen
-use Rattle.ids.specs.AllocAt.{chosenDamaged}
+use Rattle.ids.specs.Answers.{chosenOf}
+use Rattle.ids.specs.AllocAt.{chosenDamaged, allocatingAt}
 use Rattle.decl.specs.Places.{spanOf}
-use Rattle.row_step.specs.Tables.{blockOf}
-use Rattle.store_steps.specs.Seats.{Seats, vacatedSeats}
+use Rattle.row_step.specs.declared.Block.{Block}
+use Rattle.row_step.specs.Tables.{Rows, countOf}
+use Rattle.store_steps.specs.Parts.{blockBy, partBy}
+use Rattle.store_steps.specs.Seats.{Seats, seatsOf, seatedRows, vacatedSeats}
 use Rattle.store_tables.specs.Store.{Store}
 use Rattle.store_tables.specs.Rows.{archetypeOf, owns}
 use Rattle.store_tables.specs.Seen.{movedSeen}
@@ -64,20 +70,24 @@ damagedSeen used archetypes indices numbers counts (Seated span place) =
     movedSeen (span .row) used archetypes indices numbers counts (place .archetype) (place .index .0)
 damagedSeen used archetypes indices numbers counts Astray = false
 
--- the old row's archetype has its part of the sizes
-unfoldable pub PartIn : List ℕ → Standing → Type 0
-PartIn sizes Free = Unit {0}
-PartIn sizes Damaged = Unit {0}
-PartIn sizes (Seated span place) = (span .column + span .columns ≤ 256) × (span .column + span .columns ≤ length sizes)
-PartIn sizes Astray = Unit {0}
-
 -- the tables of places and rows without the old row
 unfoldable pub clearedSeats : List ℕ → List ℕ → Seats → Standing → Seats
 clearedSeats rows sizes t Free = t
 clearedSeats rows sizes t Damaged = t
 clearedSeats rows sizes t (Seated span place) =
-    vacatedSeats (blockOf (span .row) (getD rows (place .archetype) 0) (span .base)) (take ((span .column + span .columns) - span .column) (drop (span .column) sizes)) t (place .archetype) (place .index .0)
+    vacatedSeats (blockBy rows span (place .archetype)) (partBy sizes span) t (place .archetype) (place .index .0)
 clearedSeats rows sizes t Astray = t
+
+-- in the tables t without the old row, number n takes the first unused row of archetype a, whose part of the tables is k: that
+-- row's place, and what is left
+pub record Reseats (k : Block) (sizes : List ℕ) (t : Seats) (a n : ℕ) (run : List ℕ) (place : Place) (left : Seats) : Type 0 where
+  pub seats-are : left ≡ seatsOf (t .archetypes) (t .indices) (seatedRows k sizes (t .rows) a n run)
+  pub place-is : place ≡ placeOf a (countOf (t .rows) a)
+
+-- and the id layer gives the number that place: what it said, and what is left then
+pub record Settles (k : Block) (sizes : List ℕ) (t : Seats) (head : Head) (generations pending : List ℕ) (a bits : ℕ) (run : List ℕ) (said : Chosen) (i : Ids) (w : Rows) : Type 0 where
+  pub settles : Did (allocatingAt (idsOf head generations (t .archetypes) (t .indices) pending) bits (placeOf a (countOf (t .rows) a))) (idsOf head generations (t .archetypes) (t .indices) pending) (chosenOf said) i
+  pub rows-are : w ≡ seatedRows k sizes (t .rows) a (numberIn bits) run
 
 -- the head of the id layer's answer, which is all that is answered
 abbrev pub doneBy : Chosen → Done

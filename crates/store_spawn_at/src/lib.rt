@@ -15,24 +15,24 @@ use ids::Chosen;
 use ids::is_pending;
 use refusal::Refusal;
 use refusal::Tested;
-use row_step::Block;
 use store_tables::Own;
 use store_tables::is_moved_damaged;
 use store_tables::is_run_wrong;
 use store_tables::own_place;
 ghost use mathlib.Core.Path.{_≡_};
 ghost use Rattle.refusal.specs.Table.{Did};
-ghost use Rattle.handle.specs.Bits.{generationIn, numberIn};
+ghost use Rattle.handle.specs.Bits.{numberIn};
 ghost use Rattle.id_tables.specs.Ids.{idsOf};
 ghost use Rattle.id_tables.specs.Lookup.{doneOf, headAfter};
+ghost use Rattle.ids.specs.Answers.{chosenHead};
 ghost use Rattle.decl.specs.Decl.{declOf};
-ghost use Rattle.decl.specs.Places.{spanOf};
 ghost use Rattle.row_step.specs.Tables.{tablesOf};
+ghost use Rattle.store_steps.specs.Parts.{blockBy, partBy};
 ghost use Rattle.store_steps.specs.Seats.{seatsOf};
 ghost use Rattle.store_tables.specs.Store.{storeOf};
 ghost use Rattle.store_tables.specs.Kept.{Entered};
-ghost use Rattle.store_spawn_at.specs.SpawnAt.{withoutOld, rowTaken, spawningAt};
-ghost use Rattle.store_spawn_at.specs.Seen.{Stands, Chooses, astray, leavingFrom, fullSeen, damagedSeen, PartIn, clearedSeats, doneBy};
+ghost use Rattle.store_spawn_at.specs.SpawnAt.{spawningAt};
+ghost use Rattle.store_spawn_at.specs.Seen.{Stands, Chooses, astray, leavingFrom, fullSeen, damagedSeen, clearedSeats, Reseats, Settles, doneBy};
 
 // What the chosen number is: it is not live and can be taken, or its entry is damaged; it is live in a row of its own, whose archetype has this part of the tables, or no row is its own.
 enum Standing {
@@ -226,72 +226,42 @@ fn make_way(
     bytes: &mut [u8],
     standing: Standing,
 )
-    requires { ⌜ PartIn (now sizes) standing ⌝ }
     ensures { λ _. ⌜ seatsOf (now (archetypes .exit)) (now (indices .exit)) (tablesOf (now (numbers .exit)) (now (counts .exit)) (now (bytes .exit))) ≡ clearedSeats (now (rows .entry)) (now (sizes .entry)) (seatsOf (now (archetypes .entry)) (now (indices .entry)) (tablesOf (now (numbers .entry)) (now (counts .entry)) (now (bytes .entry)))) standing ⌝ }
 {
     match standing {
-        Standing::Seated(part, old) => {
-            let from = part.column;
-            let to = part.column + part.columns;
-            let block = Block {
-                first: part.row,
-                rows: at(rows, old.archetype as usize),
-                base: part.base,
-            };
-            store_steps::vacate(
-                archetypes,
-                indices,
-                numbers,
-                counts,
-                bytes,
-                block,
-                &sizes[from..to],
-                old,
-            );
-        }
+        Standing::Seated(part, old) => store_steps::vacate(
+            rows,
+            sizes,
+            archetypes,
+            indices,
+            numbers,
+            counts,
+            bytes,
+            part,
+            old,
+        ),
         Standing::Free => {}
         Standing::Damaged => {}
         Standing::Astray => {}
     }
 }
 
-// The head that the id layer hands back.
-fn done_by(said: Chosen) -> Done
-    ensures { λ r. ⌜ r ≡ doneBy said ⌝ }
-{
-    match said {
-        Chosen::Fresh(left) => Done::Granted(left),
-        Chosen::Over(_, left) => Done::Granted(left),
-        Chosen::Refused(r) => Done::Refused(r),
-    }
-}
-
-// A live number's old row leaves; then the number takes the first unused row, and the id layer has that as its place.
-fn settle(
-    head: Head,
+// A live number's old row leaves; then the number takes the first unused row of an archetype. Answers that row's place.
+fn reseat(
     rows: &[u32],
-    widths: &[u32],
-    types: &[u32],
     sizes: &[u32],
-    generations: &mut [u32],
     archetypes: &mut [u32],
     indices: &mut [u32],
-    pending: &mut [u32],
     numbers: &mut [u32],
     counts: &mut [u32],
     bytes: &mut [u8],
-    words: &[u64],
-    handle: Handle,
-    archetype: u32,
-    run: &[u8],
-    span: Span,
     standing: Standing,
-) -> Done
-    requires { ⌜ Entered (storeOf (declOf (now rows) (now widths) (now types) (now sizes)) (idsOf head (now generations) (now archetypes) (now indices) (now pending)) (tablesOf (now numbers) (now counts) (now bytes)) (now words)) ⌝ }
-    requires { ⌜ (generationIn (handle .0) ≡ 0 → ⊥) ⌝ }
-    requires { ⌜ Chooses (storeOf (declOf (now rows) (now widths) (now types) (now sizes)) (idsOf head (now generations) (now archetypes) (now indices) (now pending)) (tablesOf (now numbers) (now counts) (now bytes)) (now words)) archetype (numberIn (handle .0)) (Choice.Granted standing) ⌝ }
-    requires { ⌜ span ≡ spanOf (declOf (now rows) (now widths) (now types) (now sizes)) archetype ⌝ }
-    ensures { λ r. ⌜ Did (rowTaken (withoutOld (storeOf (declOf (now (rows .entry)) (now (widths .entry)) (now (types .entry)) (now (sizes .entry))) (idsOf head (now (generations .entry)) (now (archetypes .entry)) (now (indices .entry)) (now (pending .entry))) (tablesOf (now (numbers .entry)) (now (counts .entry)) (now (bytes .entry))) (now (words .entry))) (numberIn (handle .0))) archetype (now (run .entry)) (generationIn (handle .0)) (numberIn (handle .0))) (storeOf (declOf (now (rows .entry)) (now (widths .entry)) (now (types .entry)) (now (sizes .entry))) (idsOf head (now (generations .entry)) (now (archetypes .entry)) (now (indices .entry)) (now (pending .entry))) (tablesOf (now (numbers .entry)) (now (counts .entry)) (now (bytes .entry))) (now (words .entry))) (doneOf r) (storeOf (declOf (now (rows .entry)) (now (widths .entry)) (now (types .entry)) (now (sizes .entry))) (idsOf (headAfter head r) (now (generations .exit)) (now (archetypes .exit)) (now (indices .exit)) (now (pending .exit))) (tablesOf (now (numbers .exit)) (now (counts .exit)) (now (bytes .exit))) (now (words .entry))) ⌝ }
+    span: Span,
+    archetype: u32,
+    number: Number,
+    run: &[u8],
+) -> Place
+    ensures { λ r. ⌜ Reseats (blockBy (now (rows .entry)) span archetype) (partBy (now (sizes .entry)) span) (clearedSeats (now (rows .entry)) (now (sizes .entry)) (seatsOf (now (archetypes .entry)) (now (indices .entry)) (tablesOf (now (numbers .entry)) (now (counts .entry)) (now (bytes .entry)))) standing) archetype (number .0) (now (run .entry)) r (seatsOf (now (archetypes .exit)) (now (indices .exit)) (tablesOf (now (numbers .exit)) (now (counts .exit)) (now (bytes .exit)))) ⌝ }
 {
     make_way(
         rows,
@@ -304,28 +274,49 @@ fn settle(
         standing,
     );
     let a = archetype as usize;
-    let from = span.column;
-    let to = span.column + span.columns;
-    let block = Block {
-        first: span.row,
-        rows: at(rows, a),
-        base: span.base,
-    };
     let place = Place {
         archetype: archetype,
         index: Row(at(counts, a)),
     };
-    store_steps::seat(
+    store_steps::seat(rows, sizes, numbers, counts, bytes, span, a, number, run);
+    place
+}
+
+// The number takes its row, and the id layer has that as its place.
+fn settle(
+    head: Head,
+    rows: &[u32],
+    sizes: &[u32],
+    generations: &mut [u32],
+    archetypes: &mut [u32],
+    indices: &mut [u32],
+    pending: &mut [u32],
+    numbers: &mut [u32],
+    counts: &mut [u32],
+    bytes: &mut [u8],
+    handle: Handle,
+    archetype: u32,
+    run: &[u8],
+    span: Span,
+    standing: Standing,
+) -> Chosen
+    ensures { λ r. ⌜ Settles (blockBy (now (rows .entry)) span archetype) (partBy (now (sizes .entry)) span) (clearedSeats (now (rows .entry)) (now (sizes .entry)) (seatsOf (now (archetypes .entry)) (now (indices .entry)) (tablesOf (now (numbers .entry)) (now (counts .entry)) (now (bytes .entry)))) standing) head (now (generations .entry)) (now (pending .entry)) archetype (handle .0) (now (run .entry)) r (idsOf (chosenHead head r) (now (generations .exit)) (now (archetypes .exit)) (now (indices .exit)) (now (pending .exit))) (tablesOf (now (numbers .exit)) (now (counts .exit)) (now (bytes .exit))) ⌝ }
+{
+    let place = reseat(
+        rows,
+        sizes,
+        archetypes,
+        indices,
         numbers,
         counts,
         bytes,
-        block,
-        &sizes[from..to],
-        a,
+        standing,
+        span,
+        archetype,
         handle.id(),
         run,
     );
-    let said = ids::alloc_at(
+    ids::alloc_at(
         head,
         generations,
         archetypes,
@@ -333,8 +324,18 @@ fn settle(
         pending,
         handle.to_bits(),
         place,
-    );
-    done_by(said)
+    )
+}
+
+// The head that the id layer hands back.
+fn done_by(said: Chosen) -> Done
+    ensures { λ r. ⌜ r ≡ doneBy said ⌝ }
+{
+    match said {
+        Chosen::Fresh(left) => Done::Granted(left),
+        Chosen::Over(_, left) => Done::Granted(left),
+        Chosen::Refused(r) => Done::Refused(r),
+    }
 }
 
 // Makes an entity of this handle and these components. A live number's old row leaves first.
@@ -400,25 +401,25 @@ pub fn spawn_at(
         a,
     ) {
         Choice::Refused(r) => Done::Refused(r),
-        Choice::Granted(standing) => settle(
-            head,
-            rows,
-            widths,
-            types,
-            sizes,
-            generations,
-            archetypes,
-            indices,
-            pending,
-            numbers,
-            counts,
-            bytes,
-            words,
-            handle,
-            archetype,
-            run,
-            span,
-            standing,
-        ),
+        Choice::Granted(standing) => {
+            let said = settle(
+                head,
+                rows,
+                sizes,
+                generations,
+                archetypes,
+                indices,
+                pending,
+                numbers,
+                counts,
+                bytes,
+                handle,
+                archetype,
+                run,
+                span,
+                standing,
+            );
+            done_by(said)
+        }
     }
 }

@@ -5,6 +5,5 @@ pub mod Places
 pub mod Vacating
 pub mod Passing
 pub mod Remaining
-pub mod Parts
 pub mod Running
 pub mod Determined

@@ -7,21 +7,19 @@ use mathlib.Core.Bool.{Bool, true, false, cond}
 use mathlib.Core.List.{List}
 use mathlib.Core.Option.{Option, none, some}
 use lib.Dec.{ltb, eqb}
-use lib.ListN.{length, getD}
 use borrow.Author.Tests.{ltb-true, eqb-true}
 use Rattle.refusal.specs.Truth.{and-parts}
-use Rattle.id_tables.specs.Ids.{Ids, idsOf}
-use Rattle.decl.specs.Decl.{Decl, archetypes, rowsOf, sizesOf}
+use Rattle.id_tables.specs.Ids.{idsOf}
+use Rattle.decl.specs.Decl.{archetypes, rowsOf, sizesOf}
 use Rattle.decl.specs.Places.{spanOf}
 use Rattle.decl.specs.declared.Span.{Span}
 use Rattle.row_step.specs.Tables.{Rows, countOf, lastOf}
-use Rattle.column_entry.specs.Entry.{spanIn}
-use Rattle.column_entry.specs.Kept.{Kept}
+use Rattle.column_entry.specs.Entry.{blockIn}
 use Rattle.column_entry.proofs.Keeping.{span-kept}
 use Rattle.store_steps.specs.Seats.{Seats, seatsOf, vacatedSeats}
 use Rattle.store_steps.proofs.Laws.{left-last, left-other}
 use Rattle.store_tables.specs.Store.{Store, storeOf}
-use Rattle.store_tables.specs.Rows.{blockAt, numberAt, archetypeOf, rowOf, owns, movedDamaged, vacated}
+use Rattle.store_tables.specs.Rows.{numberAt, archetypeOf, rowOf, owns, movedDamaged, vacated}
 use Rattle.store_tables.specs.Kept.{Entered}
 use Rattle.store_tables.specs.Seen.{ownSeen, movedSeen}
 
@@ -89,7 +87,7 @@ module _ (s : Store) (a r : ℕ) (archetypes indices : List ℕ) (w : Rows) (her
   same-seats : {t : Seats} → seatsOf archetypes indices w ≡ t → (archetypes ≡ t .archetypes) × (indices ≡ t .indices) × (w ≡ t .rows)
   same-seats p = (ap (λ (t : Seats). t .archetypes) p, ap (λ (t : Seats). t .indices) p, ap (λ (t : Seats). t .rows) p)
 
-  pub vacating : seatsOf archetypes indices w ≡ vacatedSeats (blockAt (s .decl) a) (sizesOf (s .decl) a) before a r → after ≡ vacated s a r
+  pub vacating : seatsOf archetypes indices w ≡ vacatedSeats (blockIn (s .decl) a) (sizesOf (s .decl) a) before a r → after ≡ vacated s a r
   unfolding vacated
   vacating p = by (eqb r (lastOf (s .rows) a)) refl
     where

@@ -11,21 +11,22 @@ use borrow.Author.Tests.{eqb-true, eqb-false}
 use Rattle.decl.specs.Decl.{archetypes, rowsOf, sizesOf}
 use Rattle.row_step.specs.Tables.{countOf, lastOf}
 use Rattle.row_step.proofs.Held.{removed-numbers, removed-counts, removed-length}
+use Rattle.column_entry.specs.Entry.{blockIn}
 use Rattle.column_entry.specs.Kept.{Ready}
 use Rattle.store_tables.specs.Store.{Store}
-use Rattle.store_tables.specs.Rows.{blockAt, movedDamaged, vacated}
+use Rattle.store_tables.specs.Rows.{movedDamaged, vacated}
 use Rattle.store_tables.specs.Kept.{Entered}
 use Rattle.store_tables.proofs.Vacating.{vacates, vacated-decl, vacated-rows, vacated-words}
 
 module _ (s : Store) (a r : ℕ) (e : Entered s) (here : a < archetypes (s .decl)) where
   pub count-left : countOf (vacated s a r .rows) a ≡ countOf (s .rows) a - 1
   count-left =
-      rw (vacated-rows s a r, removed-counts (blockAt (s .decl) a) (sizesOf (s .decl) a) (s .rows) a r)
+      rw (vacated-rows s a r, removed-counts (blockIn (s .decl) a) (sizesOf (s .decl) a) (s .rows) a r)
       (getD-set-same (s .rows .counts) a (lastOf (s .rows) a) 0 (omega (arith, e .rows .tabled .counts-long)))
 
   pub count-kept : (b : ℕ) → (b ≡ a → ⊥) → countOf (vacated s a r .rows) b ≡ countOf (s .rows) b
   count-kept b ne =
-      rw (vacated-rows s a r, removed-counts (blockAt (s .decl) a) (sizesOf (s .decl) a) (s .rows) a r)
+      rw (vacated-rows s a r, removed-counts (blockIn (s .decl) a) (sizesOf (s .decl) a) (s .rows) a r)
       (getD-set-other (s .rows .counts) a b (lastOf (s .rows) a) 0 ne)
 
   counts-in : (b : ℕ) → countOf (vacated s a r .rows) b ≤ rowsOf (s .decl) b
@@ -42,11 +43,11 @@ module _ (s : Store) (a r : ℕ) (e : Entered s) (here : a < archetypes (s .decl
             record {
               kept = e .rows .tabled .kept;
               numbers-long =
-                  rw (vacated-rows s a r, removed-numbers (blockAt (s .decl) a) (sizesOf (s .decl) a) (s .rows) a r, length-set) (e .rows .tabled .numbers-long);
+                  rw (vacated-rows s a r, removed-numbers (blockIn (s .decl) a) (sizesOf (s .decl) a) (s .rows) a r, length-set) (e .rows .tabled .numbers-long);
               counts-long =
-                  rw (vacated-rows s a r, removed-counts (blockAt (s .decl) a) (sizesOf (s .decl) a) (s .rows) a r, length-set) (e .rows .tabled .counts-long);
+                  rw (vacated-rows s a r, removed-counts (blockIn (s .decl) a) (sizesOf (s .decl) a) (s .rows) a r, length-set) (e .rows .tabled .counts-long);
               bytes-long =
-                  rw (vacated-rows s a r) (removed-length (blockAt (s .decl) a) (sizesOf (s .decl) a) (s .rows) a r ∙ e .rows .tabled .bytes-long);
+                  rw (vacated-rows s a r) (removed-length (blockIn (s .decl) a) (sizesOf (s .decl) a) (s .rows) a r ∙ e .rows .tabled .bytes-long);
             };
         counts-in = counts-in;
       }

@@ -1,23 +1,37 @@
 -- The first tests of a call that is given a run, whose length is looked at before the declaration is known to be good.
 -- Assumes nothing.
-use Prim.{tt}
+use Prim.{Unit, tt}
 use Prim.Native.Nat.{ℕ}
 use native.Mathlib.Omega.{arith}
-use mathlib.Core.Path.{_≡_, refl, _∙_}
+use mathlib.Core.Path.{_≡_, refl, sym, ap, _∙_}
 use mathlib.Core.Bool.{Bool, true, false, not, _&&_}
 use mathlib.Core.List.{List}
 use lib.Dec.{ltb, eqb}
 use lib.ListN.{length}
 use borrow.Author.Tests.{ltb-true}
-use Rattle.refusal.specs.Table.{granted, passing}
+use Rattle.refusal.specs.Table.{Answer, granted, refused, passing}
+use Rattle.id_tables.specs.Ids.{capacity, capacityRules}
 use Rattle.decl.specs.Decl.{Decl, archetypes}
 use Rattle.decl.specs.Rules.{declRules}
 use Rattle.decl.specs.declared.Span.{Span}
-use Rattle.column_entry.specs.Entry.{spanIn}
-use Rattle.column_entry.proofs.Keeping.{kept, span-kept}
+use Rattle.column_entry.specs.Entry.{spanIn, tableRules}
+use Rattle.column_entry.proofs.Keeping.{kept, tabled, span-kept}
 use Rattle.store_tables.specs.Store.{Store, entry}
 use Rattle.store_tables.specs.Run.{runWrong}
-use Rattle.store_tables.proofs.Parts.{same-entry}
+use Rattle.store_tables.proofs.Entering.{at-capacity, at-tables}
+
+-- a length that is right or wrong where the declaration passes its tests makes no difference where it does not
+module _ (s : Store) (x y : Bool) (h : granted tt ≡ passing (declRules (s .decl)) → x ≡ y) where
+  past-capacity : granted tt ≡ passing (capacityRules (capacity (s .ids))) → (t : Answer (Unit {0})) → passing (tableRules (s .decl) (s .rows)) ≡ t → passing (entry s x) ≡ passing (entry s y)
+  past-capacity c (granted u) e = ap (λ (b : Bool). passing (entry s b)) (h (tabled (s .decl) (s .rows) (sym e) .kept .passes))
+  past-capacity c (refused m) e = at-tables s x c (sym e) ∙ sym (at-tables s y c (sym e))
+
+  same-entry : passing (entry s x) ≡ passing (entry s y)
+  same-entry = by (passing (capacityRules (capacity (s .ids)))) refl
+    where
+      by : (t : Answer (Unit {0})) → passing (capacityRules (capacity (s .ids))) ≡ t → passing (entry s x) ≡ passing (entry s y)
+      by (granted u) e = past-capacity (sym e) (passing (tableRules (s .decl) (s .rows))) refl
+      by (refused m) e = at-capacity s x (sym e) ∙ sym (at-capacity s y (sym e))
 
 -- the run's length
 module _ (d : Decl) (a : ℕ) (run : List ℕ) (span : Span) (p : span ≡ spanIn d a) where

@@ -3,22 +3,20 @@
 use Prim.Native.Nat.{ℕ, _-_, _<_, _≤_}
 use native.Mathlib.Omega.{arith}
 use mathlib.Core.Path.{_≡_, refl, sym, ap, _∙_}
-use mathlib.Core.Bool.{Bool, true, false, cond, not, _||_}
-use lib.Dec.{eqb}
-use lib.ListN.{getD}
-use borrow.Author.Tests.{leb-false, eqb-true, eqb-false, eq-eqb, not-false}
-use Rattle.handle.specs.Bits.{MAX, placeOf}
+use mathlib.Core.Bool.{Bool, true, false, not}
+use borrow.Author.Tests.{leb-false, eqb-true, eqb-false, not-false}
+use Rattle.handle.specs.Bits.{placeOf}
 use Rattle.refusal.specs.Truth.{neither}
-use Rattle.id_tables.specs.Ids.{Ids, generationAt, placeAt, placed, live, EntryOk}
+use Rattle.id_tables.specs.Ids.{generationAt, placeAt, placed, live, EntryOk}
 use Rattle.id_tables.proofs.Entering.{entry-ok}
 use Rattle.id_tables.proofs.Meaning.{ok-passes, is-live}
 use Rattle.id_tables.proofs.Placing.{placed-here, placed-other, placed-entry, set-live}
-use Rattle.decl.specs.Decl.{rowsOf, sizesOf}
-use Rattle.row_step.specs.Tables.{Rows, countOf, lastOf, removed}
+use Rattle.decl.specs.Decl.{sizesOf}
+use Rattle.row_step.specs.Tables.{countOf, lastOf, removed}
+use Rattle.column_entry.specs.Entry.{blockIn}
 use Rattle.store_tables.specs.Store.{Store}
-use Rattle.store_tables.specs.Rows.{blockAt, archetypeOf, rowOf, lastNumber, isLast, movedDamaged, corrected, vacated}
+use Rattle.store_tables.specs.Rows.{archetypeOf, rowOf, lastNumber, isLast, movedDamaged, corrected, vacated}
 use Rattle.store_tables.specs.Kept.{Entered}
-use Rattle.store_tables.proofs.Places.{Owned}
 
 -- the number of the last row, where it has its own place
 pub record Moving (s : Store) (a : ℕ) : Type 0 where
@@ -36,7 +34,7 @@ module _ (s : Store) (a r : ℕ) where
   unfolding vacated
   vacated-words = refl
 
-  pub vacated-rows : vacated s a r .rows ≡ removed (blockAt (s .decl) a) (sizesOf (s .decl) a) (s .rows) a r
+  pub vacated-rows : vacated s a r .rows ≡ removed (blockIn (s .decl) a) (sizesOf (s .decl) a) (s .rows) a r
   unfolding vacated
   vacated-rows = refl
 

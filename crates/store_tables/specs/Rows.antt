@@ -6,20 +6,15 @@ use lib.Dec.{ltb, leb, eqb}
 use lib.ListN.{getD}
 use Rattle.handle.specs.Bits.{placeOf}
 use Rattle.id_tables.specs.Ids.{Ids, indexAt, placed}
-use Rattle.decl.specs.Decl.{Decl, archetypes, firstRow, rowsOf, sizesOf}
-use Rattle.decl.specs.Places.{baseOf}
-use Rattle.row_step.specs.declared.Block.{Block}
-use Rattle.row_step.specs.Tables.{Rows, blockOf, numberIn, countOf, lastOf, removed}
+use Rattle.decl.specs.Decl.{archetypes, sizesOf}
+use Rattle.row_step.specs.Tables.{numberIn, countOf, lastOf, removed}
+use Rattle.column_entry.specs.Entry.{blockIn}
 use Rattle.store_steps.specs.Seats.{seatedRows}
 use Rattle.store_tables.specs.Store.{Store, storeOf, withRows}
 
--- archetype a's part of the row tables
-abbrev pub blockAt : Decl → ℕ → Block
-blockAt d a = blockOf (firstRow d a) (rowsOf d a) (baseOf d a)
-
 -- the number in row r of archetype a
 abbrev pub numberAt : Store → ℕ → ℕ → ℕ
-numberAt s a r = numberIn (blockAt (s .decl) a) (s .rows) r
+numberAt s a r = numberIn (blockIn (s .decl) a) (s .rows) r
 
 -- the archetype and the row of number n's place
 abbrev pub archetypeOf : Store → ℕ → ℕ
@@ -55,8 +50,8 @@ corrected s a r = cond (isLast s a r) (s .ids) (placed (s .ids) (lastNumber s a)
 
 -- row r of archetype a is removed, and the moved number's place is written
 unfoldable pub vacated : Store → ℕ → ℕ → Store
-vacated s a r = storeOf (s .decl) (corrected s a r) (removed (blockAt (s .decl) a) (sizesOf (s .decl) a) (s .rows) a r) (s .words)
+vacated s a r = storeOf (s .decl) (corrected s a r) (removed (blockIn (s .decl) a) (sizesOf (s .decl) a) (s .rows) a r) (s .words)
 
 -- number n in the first unused row of archetype a, and a run of bytes in column order in its components
 abbrev pub seated : Store → ℕ → ℕ → List ℕ → Store
-seated s a n run = withRows s (seatedRows (blockAt (s .decl) a) (sizesOf (s .decl) a) (s .rows) a n run)
+seated s a n run = withRows s (seatedRows (blockIn (s .decl) a) (sizesOf (s .decl) a) (s .rows) a n run)

@@ -1,38 +1,41 @@
--- `store_despawn::despawn` meets its contract: the first tests refuse, or the handle does, or its tests do; else the row leaves.
+-- `store_despawn::despawn` meets its contract: its tests refuse, or the row has left.
 -- Assumes nothing.
-use Rattle.store_despawn.proofs.Ending.{test-told, stays, goes, handle-nonzero}
-use Rattle.store_despawn.specs.Despawn.{despawning}
-use Rattle.store_tables.proofs.Entering.{entered}
-use Rattle.handle.specs.OnBits.{on-first, on-zero, on-good}
-use Rattle.refusal.specs.Laws.{refuse, via, told}
-use mathlib.Core.Path.{_∙_}
+use native.Mathlib.Omega.{arith}
+use mathlib.Core.Path.{refl}
+use Rattle.refusal.specs.Laws.{refuse}
+use Rattle.store_despawn.proofs.Ending.{refused-so, ends}
 use borrow.Author.Needs.{needs}
 use Rattle.store_despawn.proofs.despawn.Statement.{statement}
 use Rattle.store_despawn.proofs.despawn.Tie as tie
 
 returns : tie.Need-returns
-unfolding despawning
-returns c = refuse (on-first _ _ _ (told _ _ (c .before .before .before .tested .ensures) (c .before .r .given .1)))
+returns c = refuse (refused-so _ _ _ (c .before .before .before .row-for .ensures) _ (c .before .r .given .1))
+
+same-length-8 : tie.Need-same-length-8
+same-length-8 c = omega (arith, c .before .before .before .before .before .before .before .before .before .before .before .before .before .before .generations .given)
+
+same-length-9 : tie.Need-same-length-9
+same-length-9 c = omega (arith, c .before .before .before .before .before .before .before .before .before .before .before .before .archetypes .given)
+
+same-length-10 : tie.Need-same-length-10
+same-length-10 c = omega (arith, c .before .before .before .before .before .before .before .before .before .before .indices .given)
+
+same-length-11 : tie.Need-same-length-11
+same-length-11 c = omega (arith, c .before .before .before .before .before .before .before .before .pending .given)
+
+same-length-12 : tie.Need-same-length-12
+same-length-12 c = omega (arith, c .before .before .before .before .before .before .numbers .given)
+
+same-length-13 : tie.Need-same-length-13
+same-length-13 c = omega (arith, c .before .before .before .before .counts .given)
+
+same-length-14 : tie.Need-same-length-14
+same-length-14 c = omega (arith, c .before .before .bytes .given)
 
 returns-2 : tie.Need-returns-2
-unfolding despawning
-returns-2 c = refuse (on-zero _ _ _ _ _ (told _ _ (c .before .before .before .before .before .tested .ensures) (c .before .before .before .enum-told .given .1)) (c .before .before .from-bits .ensures) (c .enum-told2 .given .1))
-
-row-leaving-requires : tie.Need-row-leaving-requires
-row-leaving-requires c κs = entered _ _ (told _ _ (c .before .before .before .before .before .before .before .before .before .before .before .before .before .tested .ensures) (c .before .before .before .before .before .before .before .before .before .before .before .enum-told .given .1))
-
-leave-requires : tie.Need-leave-requires
-leave-requires c κs = (entered _ _ (told _ _ (c .before .before .before .before .before .before .before .before .before .before .before .before .before .before .before .before .before .before .before .before .before .before .before .before .tested .ensures) (c .before .before .before .before .before .before .before .before .before .before .before .before .before .before .before .before .before .before .before .before .before .before .enum-told .given .1)), (handle-nonzero _ _ _ (c .before .before .before .before .before .before .before .before .before .before .before .before .before .before .before .before .before .before .before .before .before .from-bits .ensures) (c .before .before .before .before .before .before .before .before .before .before .before .before .before .before .before .before .before .before .before .handle .given .1), test-told _ _ (c .before .before .before .before .before .before .before .before .before .before .row-leaving .ensures) (c .before .before .before .before .before .before .before .before .span .given .1)))
-
-returns-3 : tie.Need-returns-3
-unfolding despawning
-returns-3 c = refuse (on-good _ _ _ _ _ (told _ _ (c .before .before .before .before .before .before .before .before .before .before .before .before .before .before .before .before .before .tested .ensures) (c .before .before .before .before .before .before .before .before .before .before .before .before .before .before .before .enum-told .given .1)) (c .before .before .before .before .before .before .before .before .before .before .before .before .before .before .from-bits .ensures) (c .before .before .before .before .before .before .before .before .before .before .before .before .handle .given .1) ∙ stays _ _ _ (test-told _ _ (c .before .before .before .row-leaving .ensures) (c .before .r2 .given .1)))
-
-returns-4 : tie.Need-returns-4
-unfolding despawning
-returns-4 c = via (on-good _ _ _ _ _ (told _ _ (c .before .before .before .before .before .before .before .before .before .before .before .before .before .before .before .before .before .before .before .before .before .before .before .before .before .before .before .before .before .before .before .before .before .before .before .before .before .before .before .tested .ensures) (c .before .before .before .before .before .before .before .before .before .before .before .before .before .before .before .before .before .before .before .before .before .before .before .before .before .before .before .before .before .before .before .before .before .before .before .before .before .enum-told .given .1)) (c .before .before .before .before .before .before .before .before .before .before .before .before .before .before .before .before .before .before .before .before .before .before .before .before .before .before .before .before .before .before .before .before .before .before .before .before .from-bits .ensures) (c .before .before .before .before .before .before .before .before .before .before .before .before .before .before .before .before .before .before .before .before .before .before .before .before .before .before .before .before .before .before .before .before .before .before .handle .given .1) ∙ goes _ _ _ (test-told _ _ (c .before .before .before .before .before .before .before .before .before .before .before .before .before .before .before .before .before .before .before .before .before .before .before .before .before .row-leaving .ensures) (c .before .before .before .before .before .before .before .before .before .before .before .before .before .before .before .before .before .before .before .before .before .before .before .span .given .1))) (c .before .before .before .before .before .before .before .before .before .before .before .before .before .before .leave .ensures)
+returns-2 c = ends _ _ _ (c .before .before .before .before .before .before .before .before .before .before .before .before .before .before .before .before .before .before .before .before .before .before .before .before .before .before .row-for .ensures) _ _ (c .before .before .before .before .before .before .before .before .before .before .before .before .before .before .before .before .before .before .before .before .before .before .before .before .span .given .1) _ _ _ _ _ _ _ (c .before .before .before .before .before .before .before .before .before .before .before .before .before .before .before .leave .ensures) (c .done-by .ensures)
 
 pub despawn-spec : {M : Type 1} → statement M
 despawn-spec =
     tie.close
-    (tie.spec (λ c κs. search needs) (λ c. search needs) (λ c. search needs) (λ c. search needs) (λ c. search needs) (λ c. search needs) (λ c. search needs) (λ c. search needs) (λ c. search needs) returns (λ c. search needs) (λ c κs. search needs) (λ c. search needs) (λ c. search needs) (λ c. search needs) (λ c. search needs) (λ c. search needs) (λ c. search needs) (λ c. search needs) (λ c. search needs) (λ c. search needs) returns-2 row-leaving-requires (λ c. search needs) (λ c. search needs) leave-requires (λ c. search needs) (λ c. search needs) (λ c. search needs) (λ c. search needs) (λ c. search needs) (λ c. search needs) (λ c. search needs) returns-3 (λ c. search needs) (λ c. search needs) (λ c. search needs) (λ c. search needs) (λ c. search needs) (λ c. search needs) (λ c. search needs) returns-4)
+    (tie.spec (λ c κs. search needs) (λ c. search needs) (λ c. search needs) (λ c κs. search needs) (λ c κs. search needs) (λ c. refl) (λ c. refl) (λ c. refl) (λ c. refl) (λ c. refl) (λ c. refl) (λ c. refl) returns same-length-8 same-length-9 same-length-10 same-length-11 same-length-12 same-length-13 same-length-14 returns-2)

@@ -1,17 +1,13 @@
--- `store_steps::seat` meets its contract: no row is unused, or the first is filled and counted.
+-- `store_steps::seat` meets its contract: the block and the sizes are the archetype's.
 -- Assumes nothing.
 use borrow.Author.Needs.{needs}
-use Rattle.store_steps.proofs.Stepping.{none-unused, one-unused}
 use Rattle.store_steps.proofs.seat.Statement.{statement}
 use Rattle.store_steps.proofs.seat.Tie as tie
 
 returns : tie.Need-returns
-returns c = none-unused _ _ _ _ _ _ _ (c .before .before .at .ensures) (c .if1 .taken)
-
-returns-2 : tie.Need-returns-2
-returns-2 c = one-unused _ _ _ _ _ _ _ (c .before .before .before .before .before .before .before .before .before .before .before .before .before .before .at .ensures) _ _ _ (c .before .before .before .before .before .before .before .before .before .before .before .before .if1 .left) (c .before .before .before .before .before .before .before .before .before .before .transfer .ensures) (c .before .before .before .before .before .before .set-number .ensures) (c .before .before .put .ensures)
+returns c = rw (← c .before .before .before .before .before .before .before .before .before .before .before .block-of .ensures, ← c .before .before .before .before .before .before .before .before .before .before .part-of .ensures) (c .before .before .before .before .before .before .seat-in .ensures)
 
 pub seat-spec : {M : Type 1} → statement M
 seat-spec =
     tie.close
-    (tie.spec (λ c κs. search needs) (λ c. search needs) returns (λ c κs. search needs) (λ c κs. search needs) (λ c. search needs) (λ c κs. search needs) (λ c. search needs) (λ c. search needs) (λ c. search needs) returns-2)
+    (tie.spec (λ c κs. search needs) (λ c κs. search needs) (λ c κs. search needs) (λ c. search needs) (λ c. search needs) (λ c. search needs) returns)

@@ -1,17 +1,13 @@
--- `store_steps::vacate` meets its contract: a number was moved and its place written, or none was.
+-- `store_steps::vacate` meets its contract: the block and the sizes are the archetype's.
 -- Assumes nothing.
 use borrow.Author.Needs.{needs}
-use Rattle.store_steps.proofs.Stepping.{nothing-moved, one-moved}
 use Rattle.store_steps.proofs.vacate.Statement.{statement}
 use Rattle.store_steps.proofs.vacate.Tie as tie
 
 returns : tie.Need-returns
-returns c = one-moved _ _ _ _ _ _ _ (c .before .before .before .before .before .before .before .before .before .before .before .before .before .before .before .before .remove .ensures) _ _ _ (c .before .before .before .before .before .before .before .before .moved .given .1) (c .before .before .before .before .put-place .ensures)
-
-returns-2 : tie.Need-returns-2
-returns-2 c = nothing-moved _ _ _ _ _ _ _ (c .before .before .before .before .before .before .before .before .remove .ensures) (c .enum-told .given .1)
+returns c = rw (← c .before .before .before .before .before .before .before .before .before .before .before .before .before .before .before .before .before .block-of .ensures, ← c .before .before .before .before .before .before .before .before .before .before .before .before .before .before .before .before .part-of .ensures) (c .before .before .before .before .before .before .before .before .before .before .vacate-in .ensures)
 
 pub vacate-spec : {M : Type 1} → statement M
 vacate-spec =
     tie.close
-    (tie.spec (λ c. search needs) (λ c κs. search needs) (λ c. search needs) (λ c κs. search needs) (λ c. search needs) (λ c. search needs) (λ c. search needs) (λ c. search needs) (λ c. search needs) (λ c. search needs) returns (λ c. search needs) (λ c. search needs) (λ c. search needs) returns-2)
+    (tie.spec (λ c. search needs) (λ c κs. search needs) (λ c κs. search needs) (λ c κs. search needs) (λ c. search needs) (λ c. search needs) (λ c. search needs) (λ c. search needs) (λ c. search needs) returns)

@@ -1,7 +1,7 @@
 -- `store_moves::move_row` meets its contract: the new row is taken, the old one leaves, the place is written.
 -- Assumes nothing.
-use borrow.Author.Needs.{needs}
 use Rattle.store_moves.proofs.Stepping.{moves}
+use borrow.Author.Needs.{needs}
 use Rattle.store_moves.proofs.steps.move_row.Statement.{statement}
 use Rattle.store_moves.proofs.steps.move_row.Tie as tie
 

@@ -1,8 +1,8 @@
--- `store_despawn::place_at` meets its contract: the two entries are read.
+-- `id_tables::place_at` meets its contract: the two entries are read.
 -- Assumes nothing.
 use borrow.Author.Needs.{needs}
-use Rattle.store_despawn.proofs.place_at.Statement.{statement}
-use Rattle.store_despawn.proofs.place_at.Tie as tie
+use Rattle.id_tables.proofs.tables.place_at.Statement.{statement}
+use Rattle.id_tables.proofs.tables.place_at.Tie as tie
 
 returns : tie.Need-returns
 returns c = rw (c .before .at .ensures, c .at2 .ensures)
