@@ -1,28 +1,28 @@
 -- What the tests of a column call give it.
 -- Assumes nothing.
-use Prim.{tt}
+use Prim.{Unit, tt}
 use Prim.Native.Nat.{ℕ, _≤_, _<_}
-use mathlib.Core.Bool.{false, not}
+use mathlib.Core.Bool.{not}
 use mathlib.Core.List.{List}
 use mathlib.Core.Logic.{⊎-elim}
 use mathlib.Core.Path.{_≡_, sym, ap, _∙_}
 use native.Mathlib.Omega.{arith}
 use borrow.Author.Tests.{eq-eqb, ne-eqb, le-leb, lt-leb, eqb-true, leb-false, ltb-false, not-false}
-use lib.Dec.{eqb}
 use lib.ListN.{length, getD, List·getD-eq-default}
-use Rattle.refusal.specs.Table.{granted, refused, passing}
+use Rattle.refusal.specs.Table.{Answer, granted, refused, passing}
 use Rattle.refusal.specs.Laws.{passed, both}
-use Rattle.decl.specs.Decl.{Decl, archetypes, rowsOf, firstRow}
+use Rattle.decl.specs.Decl.{Decl, archetypes, rowsOf}
 use Rattle.decl.specs.Rules.{declRules}
-use Rattle.decl.specs.Places.{spanOf}
-use Rattle.decl.specs.declared.Span.{Span}
+use Rattle.decl.specs.Places.{spanOf, measured}
+use Rattle.decl.specs.declared.Totals.{Totals}
 use Rattle.decl.proofs.Lists.{any-at, below-or-not}
 use Rattle.decl.proofs.Keeping.{declared}
 use Rattle.decl.proofs.Lending.{span-in}
+use Rattle.decl.proofs.Measuring.{measure-refused, measure-passed, measure-is}
 use Rattle.row_step.specs.Tables.{Rows}
-use Rattle.column_entry.specs.Entry.{spanOr, spanIn, lengthRules, tableRules, isOver, countRules, entryRules, rowRules}
+use Rattle.column_entry.specs.Entry.{spanOr, spanIn, lengthsFor, lengthRules, tableRules, isOver, countRules, entryRules, rowRules}
 use Rattle.column_entry.specs.Kept.{Kept, Tabled, Ready, There}
-use Rattle.refusal.specs.Chain.{applies, onward, through}
+use Rattle.refusal.specs.Chain.{applies, onward, through, stop, go}
 
 pub kept : (d : Decl) → granted tt ≡ passing (declRules d) → Kept d
 kept d e = record { passes = e; declared = declared d e }
@@ -33,32 +33,31 @@ unfolding spanIn
 span-kept d a k h = ap spanOr (sym (span-in d a (k .passes) h))
 
 -- the lengths, compared with what all archetypes take
-module _ (d : Decl) (w : Rows) (k : Kept d) (s : Span) (all : s ≡ spanIn d (archetypes d)) where
-  whole : s ≡ spanOf d (archetypes d)
-  whole = all ∙ span-kept d (archetypes d) k (omega arith)
+module _ (all : Totals) (archetypes numbers counts bytes : ℕ) where
+  pub numbers-wrong : (numbers ≡ all .rows → ⊥) → refused 13 ≡ passing (lengthsFor all archetypes numbers counts bytes)
+  numbers-wrong h = applies 13 _ (ap not (ne-eqb _ _ h))
 
-  pub numbers-wrong : (length (w .numbers) ≡ s .row → ⊥) → refused 13 ≡ passing (lengthRules d w)
-  unfolding lengthRules
-  numbers-wrong h = applies 13 _ (ap not (ne-eqb _ _ (λ e. h (e ∙ sym (ap (λ (t : Span). t .row) whole)))))
+  module _ (p : numbers ≡ all .rows) where
+    pub counts-wrong : (counts ≡ archetypes → ⊥) → refused 13 ≡ passing (lengthsFor all archetypes numbers counts bytes)
+    counts-wrong h = onward 13 _ (ap not (eq-eqb _ _ p)) (applies 13 _ (ap not (ne-eqb _ _ h)))
 
-  module _ (numbers : length (w .numbers) ≡ s .row) where
-    numbers-right : not (eqb (length (w .numbers)) (firstRow d (archetypes d))) ≡ false
-    numbers-right = ap not (eq-eqb _ _ (numbers ∙ ap (λ (t : Span). t .row) whole))
+    module _ (q : counts ≡ archetypes) where
+      pub bytes-wrong : (bytes ≡ all .bytes → ⊥) → refused 13 ≡ passing (lengthsFor all archetypes numbers counts bytes)
+      bytes-wrong h = onward 13 _ (ap not (eq-eqb _ _ p)) (onward 13 _ (ap not (eq-eqb _ _ q)) (applies 13 _ (ap not (ne-eqb _ _ h))))
 
-    pub counts-wrong : (length (w .counts) ≡ archetypes d → ⊥) → refused 13 ≡ passing (lengthRules d w)
-    unfolding lengthRules
-    counts-wrong h = onward 13 _ numbers-right (applies 13 _ (ap not (ne-eqb _ _ h)))
+      pub lengths-right : bytes ≡ all .bytes → granted tt ≡ passing (lengthsFor all archetypes numbers counts bytes)
+      lengths-right h = onward 13 _ (ap not (eq-eqb _ _ p)) (onward 13 _ (ap not (eq-eqb _ _ q)) (onward 13 _ (ap not (eq-eqb _ _ h)) through))
 
-    module _ (counts : length (w .counts) ≡ archetypes d) where
-      pub bytes-wrong : (length (w .bytes) ≡ s .base → ⊥) → refused 13 ≡ passing (lengthRules d w)
-      unfolding lengthRules
-      bytes-wrong h =
-          onward 13 _ numbers-right (onward 13 _ (ap not (eq-eqb _ _ counts)) (applies 13 _ (ap not (ne-eqb _ _ (λ e. h (e ∙ sym (ap (λ (t : Span). t .base) whole)))))))
+-- the declaration's tests, then the lengths
+module _ (d : Decl) (w : Rows) where
+  pub declaration-halts : {n : ℕ} → refused n ≡ measured d → refused n ≡ passing (tableRules d w)
+  unfolding tableRules
+  declaration-halts e = stop (declRules d) (lengthRules d w) (measure-refused d e)
 
-      pub lengths-right : length (w .bytes) ≡ s .base → granted tt ≡ passing (lengthRules d w)
-      unfolding lengthRules
-      lengths-right h =
-          onward 13 _ numbers-right (onward 13 _ (ap not (eq-eqb _ _ counts)) (onward 13 _ (ap not (eq-eqb _ _ (h ∙ ap (λ (t : Span). t .base) whole))) through))
+  pub lengths-told : {all : Totals} {a : Answer (Unit {0})} → granted all ≡ measured d → a ≡ passing (lengthsFor all (archetypes d) (length (w .numbers)) (length (w .counts)) (length (w .bytes)))
+      → a ≡ passing (tableRules d w)
+  unfolding tableRules lengthRules
+  lengths-told e h = go (declRules d) (lengthRules d w) (measure-passed d e) (rw (measure-is d e) at h)
 
 -- a row that is named
 module _ (rows counts : List ℕ) (a r : ℕ) where

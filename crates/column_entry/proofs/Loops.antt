@@ -1,33 +1,57 @@
 -- The two loops: row counts against rows, and the columns of a type.
 -- Assumes nothing.
 use Prim.{tt}
-use Prim.Native.Nat.{ℕ, _+_, _≤_, _<_}
-use mathlib.Core.Bool.{false, not}
+use Prim.Native.Nat.{ℕ, zero, suc, _+_, _≤_, _<_, min}
+use mathlib.Core.Bool.{Bool, true, false, not, or-false}
 use mathlib.Core.List.{List, [], _∷_}
-use mathlib.Core.Path.{_≡_, refl}
+use mathlib.Core.Logic.{⊎-elim}
+use mathlib.Core.Path.{_≡_, refl, sym, ap, _∙_}
+use native.Mathlib.Nat.{le-of-suc-le-suc, eq-or-lt-of-le}
 use native.Mathlib.Numerals.{add-one}
+use native.Mathlib.Omega.{arith}
 use borrow.Author.Tests.{lt-ltb, le-ltb, eq-eqb, ne-eqb}
 use lib.Dec.{eqb}
-use lib.ListN.{length, getD, drop, drop-of-length-le}
+use lib.ListN.{length, getD, drop, drop-of-length-le, List·getD-eq-default}
 use lib.Seq.{drop-cons}
 use Rattle.refusal.specs.Table.{granted, refused, passing}
 use Rattle.decl.specs.Lists.{anyBelow}
-use Rattle.decl.proofs.Lists.{any-more, any-stop, any-done}
+use Rattle.decl.proofs.Lists.{below-or-not}
 use Rattle.column_entry.specs.Entry.{isOver, countRules, wrongSize}
 use Rattle.refusal.specs.Chain.{applies, onward, through}
 
-module _ (rows counts : List ℕ) (a n : ℕ) (count : n ≡ getD counts a 0) where
-  pub count-over : a < length rows → getD rows a 0 < n → refused 1 ≡ passing (countRules rows counts)
-  unfolding countRules isOver
-  count-over h k = applies 1 _ (any-stop (isOver rows counts) (length rows) a h (lt-ltb (getD rows a 0) (getD counts a 0) (rw count at k)))
+-- beyond n there is none
+any-within : (p : ℕ → Bool) (n m : ℕ) → n ≤ m → ((b : ℕ) → n ≤ b → p b ≡ false) → anyBelow m p ≡ anyBelow n p
+unfolding anyBelow
+any-within p n zero h f = let e : n ≡ 0 = omega arith in rw e
+any-within p n (suc m) h f = ⊎-elim (λ e. rw e) (λ k. rw (f m (le-of-suc-le-suc k), any-within p n m (le-of-suc-le-suc k) f) (or-false (anyBelow n p))) (eq-or-lt-of-le h)
 
-  pub count-next : anyBelow a (isOver rows counts) ≡ false → n ≤ getD rows a 0 → anyBelow (a + 1) (isOver rows counts) ≡ false
+-- row counts against rows: one that is there, and past the counts
+module _ (rows counts : List ℕ) (a : ℕ) where
+  pub is-over : getD rows a 0 < getD counts a 0 → isOver rows counts a ≡ true
   unfolding isOver
-  count-next e k = any-more (isOver rows counts) a e (le-ltb (getD rows a 0) (getD counts a 0) (rw count at k))
+  is-over k = lt-ltb _ _ k
 
-pub counts-passed : (rows counts : List ℕ) (a : ℕ) → anyBelow a (isOver rows counts) ≡ false → a ≤ length rows → length rows ≤ a → granted tt ≡ passing (countRules rows counts)
-unfolding countRules
-counts-passed rows counts a e h k = onward 1 _ (any-done (isOver rows counts) (length rows) a e h k) through
+  pub not-over : getD counts a 0 ≤ getD rows a 0 → isOver rows counts a ≡ false
+  unfolding isOver
+  not-over k = le-ltb _ _ k
+
+  past-counts : length counts ≤ a → isOver rows counts a ≡ false
+  past-counts l = not-over (omega (arith, List·getD-eq-default counts 0 {n = a} l))
+
+module _ (rows counts : List ℕ) {over : Bool} (e : over ≡ anyBelow (min (length rows) (length counts)) (isOver rows counts)) where
+  all-over : anyBelow (length rows) (isOver rows counts) ≡ over
+  all-over =
+      ⊎-elim (λ (h : length rows < length counts). let z : min (length rows) (length counts) ≡ length rows = omega arith in sym (e ∙ ap (λ (n : ℕ). anyBelow n (isOver rows counts)) z))
+      (λ (h : length counts ≤ length rows). let z : min (length rows) (length counts) ≡ length counts = omega arith in any-within (isOver rows counts) (length counts) (length rows) h (λ b l. past-counts rows counts b l) ∙ sym (e ∙ ap (λ (n : ℕ). anyBelow n (isOver rows counts)) z))
+      (below-or-not (length rows) (length counts))
+
+  pub counts-over : over ≡ true → refused 1 ≡ passing (countRules rows counts)
+  unfolding countRules
+  counts-over h = applies 1 _ (all-over ∙ h)
+
+  pub counts-passed : over ≡ false → granted tt ≡ passing (countRules rows counts)
+  unfolding countRules
+  counts-passed h = onward 1 _ (all-over ∙ h) through
 
 -- what is left of the columns decides
 module _ (types sizes : List ℕ) (t n p : ℕ) where

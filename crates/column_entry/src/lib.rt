@@ -1,16 +1,19 @@
 // What the tables that a column call is lent must be, on any input.
 use decl::Located;
+use decl::Measured;
 use decl::Span;
+use decl::Totals;
 use handle::Row;
 use refusal::Refusal;
 use refusal::Tested;
 ghost use mathlib.Core.Path.{_≡_};
-ghost use lib.ListN.{getD};
+ghost use Prim.Native.Nat.{_≤_, min};
+ghost use lib.ListN.{length, getD};
 ghost use Rattle.refusal.specs.Table.{testOf, passing};
+ghost use Rattle.decl.specs.Lists.{anyBelow};
 ghost use Rattle.decl.specs.Decl.{declOf};
 ghost use Rattle.row_step.specs.Tables.{tablesOf};
-ghost use Rattle.column_entry.specs.Entry.{spanIn, lengthRules, tableRules, countRules, entryRules, rowRules, wrongSize};
-ghost use Rattle.column_entry.specs.Kept.{Kept};
+ghost use Rattle.column_entry.specs.Entry.{spanIn, lengthsFor, tableRules, isOver, countRules, entryRules, rowRules, wrongSize};
 
 // An archetype's part of each table; at the number of archetypes, what all of them take. All 0 where there is none.
 pub fn span(rows: &[u32], widths: &[u32], types: &[u32], sizes: &[u32], archetype: usize) -> Span
@@ -40,26 +43,23 @@ pub fn count_of(counts: &[u32], archetype: usize) -> u32
     }
 }
 
+// 13, where all archetypes take `all`.
 fn lengths_tested(
-    rows: &[u32],
-    widths: &[u32],
-    types: &[u32],
-    sizes: &[u32],
-    numbers: &[u32],
-    counts: &[u32],
-    bytes: &[u8],
+    all: Totals,
+    archetypes: usize,
+    numbers: usize,
+    counts: usize,
+    bytes: usize,
 ) -> Tested
-    requires { ⌜ Kept (declOf (now rows) (now widths) (now types) (now sizes)) ⌝ }
-    ensures { λ r. ⌜ testOf r ≡ passing (lengthRules (declOf (now (rows .entry)) (now (widths .entry)) (now (types .entry)) (now (sizes .entry))) (tablesOf (now (numbers .entry)) (now (counts .entry)) (now (bytes .entry)))) ⌝ }
+    ensures { λ r. ⌜ testOf r ≡ passing (lengthsFor all archetypes numbers counts bytes) ⌝ }
 {
-    let all = span(rows, widths, types, sizes, rows.len());
-    if numbers.len() != all.row {
+    if numbers != all.rows {
         return Tested::Refused(Refusal::BadLength);
     }
-    if counts.len() != rows.len() {
+    if counts != archetypes {
         return Tested::Refused(Refusal::BadLength);
     }
-    if bytes.len() != all.base {
+    if bytes != all.bytes {
         return Tested::Refused(Refusal::BadLength);
     }
     Tested::Passed
@@ -77,22 +77,49 @@ pub fn tables_tested(
 ) -> Tested
     ensures { λ r. ⌜ testOf r ≡ passing (tableRules (declOf (now (rows .entry)) (now (widths .entry)) (now (types .entry)) (now (sizes .entry))) (tablesOf (now (numbers .entry)) (now (counts .entry)) (now (bytes .entry)))) ⌝ }
 {
-    if let Tested::Refused(r) = decl::tested(rows, widths, types, sizes) {
-        return Tested::Refused(r);
+    match decl::totals_of(rows, widths, types, sizes) {
+        Measured::Of(all) => lengths_tested(
+            all,
+            rows.len(),
+            numbers.len(),
+            counts.len(),
+            bytes.len(),
+        ),
+        Measured::Refused(r) => Tested::Refused(r),
     }
-    lengths_tested(rows, widths, types, sizes, numbers, counts, bytes)
 }
 
-// 1 for the row counts.
+// The smaller of two lengths.
+fn least(a: usize, b: usize) -> usize
+    ensures { λ r. ⌜ r ≡ min a b ⌝ }
+{
+    if a < b {
+        return a;
+    }
+    b
+}
+
+// Whether one of the first n row counts is above its rows.
+fn any_over(rows: &[u32], counts: &[u32], n: usize) -> bool
+    requires { ⌜ (n ≤ length (now rows)) × (n ≤ length (now counts)) ⌝ }
+    ensures { λ r. ⌜ r ≡ anyBelow n (isOver (now (rows .entry)) (now (counts .entry))) ⌝ }
+{
+    let mut a = 0;
+    while a < n {
+        if rows[a] < counts[a] {
+            return true;
+        }
+        a += 1;
+    }
+    false
+}
+
+// 1 for the row counts. One that is not there is 0, which is above no rows.
 pub fn counts_tested(rows: &[u32], counts: &[u32]) -> Tested
     ensures { λ r. ⌜ testOf r ≡ passing (countRules (now (rows .entry)) (now (counts .entry))) ⌝ }
 {
-    let mut a = 0;
-    while a < rows.len() {
-        if rows[a] < count_of(counts, a) {
-            return Tested::Refused(Refusal::Damaged);
-        }
-        a += 1;
+    if any_over(rows, counts, least(rows.len(), counts.len())) {
+        return Tested::Refused(Refusal::Damaged);
     }
     Tested::Passed
 }

@@ -1,24 +1,25 @@
 -- The tests on types and sizes, as the code runs them, are the rules'.
 -- Assumes nothing.
 use Prim.{tt}
-use Prim.Native.Nat.{ℕ, _^_, _≤_, _<_}
+use Prim.Native.Nat.{ℕ, _≤_, _<_}
 use mathlib.Core.Bool.{Bool, true, false, not}
 use mathlib.Core.Path.{_≡_, refl, sym, ap, _∙_}
 use native.Mathlib.Omega.{arith}
+use borrow.Author.Tests.{eq-eqb, ne-eqb, le-ltb}
 use lib.ListN.{length}
 use Rattle.refusal.specs.Table.{granted, refused, passing}
 use Rattle.refusal.specs.Laws.{past, halted, parts}
-use Rattle.decl.specs.Limits.{maxArchetypes, maxSize}
+use Rattle.decl.specs.Limits.{maxSize}
 use Rattle.decl.specs.Lists.{sum, firstOf, rising, same, anyAbove, anyBelow, anyPair}
 use Rattle.decl.specs.Decl.{Decl, archetypes, typesOf, sizesOf}
 use Rattle.decl.specs.Rules.{shapeRules, sameTypes, sizesDiffer, columnRules, declRules}
+use Rattle.decl.specs.Kept.{Shaped}
 use Rattle.decl.specs.Steps.{clashing, falls, clashAt, Risen, Plain}
 use Rattle.decl.proofs.Lists.{false-true, or-left, or-right, any-false, pair-at, pair-false, above-false, ne-same, first-all}
 use Rattle.refusal.specs.Chain.{onward, through}
 use Rattle.decl.proofs.Keeping.{allTwelve, testAt, decides, columns-all, shaped}
 use Rattle.decl.proofs.Merge.{two-none}
 use Rattle.decl.proofs.Pairs.{parts-agree}
-use Rattle.decl.proofs.Placing.{column-in}
 
 module _ (d : Decl) where
   -- a refusal of the first tests is the declaration's
@@ -77,17 +78,24 @@ module _ (d : Decl) where
         rw shape-past
         (onward 12 _ p (onward 12 _ (falls-rule ∙ q) (onward 12 _ (clash-none h .0) (onward 12 _ (clash-none h .1) through))))
 
-    -- enough to look at the columns, and what the quick look gives
-    pub plain-lent : (length (d .widths) ≤ maxArchetypes) × (sum (d .widths) ≡ length (d .types)) × (length (d .sizes) ≡ length (d .types)) × (length (d .types) < 2 ^ 16)
-    plain-lent =
-        let g = shaped d e in
-        let all = columns-all d (g .widths-long) in
-        (omega (arith, g .few, g .widths-long), sym (g .types-long ∙ all), g .sizes-long ∙ sym (g .types-long), omega (arith, g .types-long, g .few, column-in d g (archetypes d)))
+  -- a shape that is right passes
+  pub shape-passes : Shaped d → granted tt ≡ passing (shapeRules d)
+  unfolding shapeRules
+  shape-passes g =
+      onward 12 _ (ne-eqb (archetypes d) 0 (λ e. omega (arith, g .some)))
+      (onward 12 _ (le-ltb _ _ (g .few))
+      (onward 12 _ (ap not (eq-eqb _ _ (g .widths-long)))
+      (onward 12 _ (ap not (eq-eqb _ _ (g .bare)))
+      (onward 12 _ (above-false _ _ (λ k h. g .widths-in k))
+      (onward 12 _ (above-false _ _ (λ k h. g .rows-in k))
+      (onward 12 _ (ap not (eq-eqb _ _ (g .types-long)))
+      (onward 12 _ (ap not (eq-eqb _ _ (g .sizes-long))) through)))))))
 
-    pub plain-passed : Plain (d .widths) (d .types) (d .sizes) (length (d .widths)) → granted tt ≡ passing (declRules d)
-    unfolding clashing
-    plain-passed p =
-        let whole : firstOf (d .widths) (length (d .widths)) ≡ length (d .types) = first-all (d .widths) (length (d .widths)) (omega arith) ∙ plain-lent .1 in
-        all-passed (above-false maxSize (d .sizes) (λ k h. p .small k (omega (arith, plain-lent .2))))
-        (any-false _ _ (λ a h. ap not (p .rises a h)))
-        (pair-false _ _ (λ a b h m. rw (ne-same _ _ (p .differ a b h m)) (two-none _ _ _ _ (parts-agree _ _ _ _ (p .one-size) a b (omega arith) m))))
+  -- and so do columns that are plain
+  pub plain-passes : Shaped d → Plain (d .widths) (d .types) (d .sizes) (length (d .widths)) → granted tt ≡ passing (declRules d)
+  unfolding clashing
+  plain-passes g p =
+      let whole : firstOf (d .widths) (length (d .widths)) ≡ length (d .types) = first-all (d .widths) (length (d .widths)) (omega arith) ∙ sym (g .types-long ∙ columns-all d (g .widths-long)) in
+      all-passed (shape-passes g) (above-false maxSize (d .sizes) (λ k h. p .small k (omega (arith, g .types-long, g .sizes-long))))
+      (any-false _ _ (λ a h. ap not (p .rises a h)))
+      (pair-false _ _ (λ a b h m. rw (ne-same _ _ (p .differ a b h m)) (two-none _ _ _ _ (parts-agree _ _ _ _ (p .one-size) a b (omega arith) m))))

@@ -10,13 +10,15 @@ use Rattle.refusal.specs.declared.Tested.{Tested}
 use Rattle.refusal.specs.declared.Tested.the-variants as tests
 use Rattle.decl.specs.Decl.{Decl}
 use Rattle.decl.specs.Rules.{declRules}
-use Rattle.decl.specs.Places.{locatedOf, spanned}
+use Rattle.decl.specs.Places.{locatedOf, spanned, measuredOf, measured}
 use Rattle.decl.specs.Lookup.{searched, lookedOf, lookedUp}
 use Rattle.decl.specs.declared.Column.{Column}
 use Rattle.decl.specs.declared.Looked.{Looked}
 use Rattle.decl.specs.declared.Looked.the-variants as looks
 use Rattle.decl.specs.declared.Located.{Located}
 use Rattle.decl.specs.declared.Located.the-variants as places
+use Rattle.decl.specs.declared.Measured.{Measured}
+use Rattle.decl.specs.declared.Measured.the-variants as measures
 
 -- an answer of the document is that of one result
 pub tested-tells : (r s : Tested) → testOf r ≡ testOf s → r ≡ s
@@ -36,6 +38,15 @@ located-tells (places.At i) (places.At j) e = ap places.At (cc)
 located-tells (places.At i) (places.Refused y) e = cc
 located-tells (places.Refused x) (places.At j) e = cc
 located-tells (places.Refused x) (places.Refused y) e = ap places.Refused (number-inj x y (cc))
+
+pub measured-tells : (r s : Measured) → measuredOf r ≡ measuredOf s → r ≡ s
+measured-tells (measures.Of i) (measures.Of j) e = ap measures.Of (cc)
+measured-tells (measures.Of i) (measures.Refused y) e = cc
+measured-tells (measures.Refused x) (measures.Of j) e = cc
+measured-tells (measures.Refused x) (measures.Refused y) e = ap measures.Refused (number-inj x y (cc))
+
+pub totals-of : (d : Decl) (r s : Measured) → measuredOf r ≡ measured d → measuredOf s ≡ measured d → r ≡ s
+totals-of d r s p q = sole-answer measuredOf measured-tells r s p q
 
 pub tested : (d : Decl) (r s : Tested) → testOf r ≡ passing (declRules d) → testOf s ≡ passing (declRules d) → r ≡ s
 tested d r s p q = sole-answer testOf tested-tells r s p q

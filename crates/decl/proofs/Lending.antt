@@ -12,14 +12,13 @@ use Rattle.decl.specs.Rules.{declRules}
 use Rattle.decl.specs.Places.{rowWidth, baseOf, columnStart, cellStart, spanOf, spanned}
 use Rattle.decl.specs.Kept.{Shaped}
 use Rattle.decl.proofs.Lists.{first-all, first-step, part-lent, part-in-sum}
-use Rattle.decl.proofs.Keeping.{columns-all, declared-shape}
-use Rattle.decl.proofs.Spanning.{span-told}
+use Rattle.decl.proofs.Keeping.{columns-all, shaped, declared-shape}
+use Rattle.decl.proofs.Spanning.{span-shaped}
 
 module _ (d : Decl) (a : ℕ) where
   -- of a declaration that passes its tests, the span is answered
   pub span-in : granted tt ≡ passing (declRules d) → a ≤ archetypes d → granted (spanOf d a) ≡ spanned d a
-  unfolding firstColumn
-  span-in e h = span-told d a (declared-shape d e) h refl refl refl refl refl refl
+  span-in e h = sym (span-shaped d a (shaped d (declared-shape d e)) h)
 
   -- its columns stand within the tables of all
   pub columns-in : Shaped d → firstColumn d a + widthOf d a ≤ columns d

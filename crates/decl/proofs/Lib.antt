@@ -1,5 +1,5 @@
--- For callers: what a declaration that passes keeps (Keeping), where its parts stand (Placing, Spanning), what a search
--- finds (Search, Looking), and that the contracts leave no second result (Determined). The rest serves the proofs here.
+-- For callers: what a declaration that passes keeps (Keeping), what it takes (Measuring), where its parts stand (Placing,
+-- Lending), what a search finds (Search, Looking), and that the contracts leave no second result (Determined). The rest serves the proofs here.
 pub mod Lists
 pub mod Merge
 pub mod Pairs
@@ -7,7 +7,10 @@ pub mod Search
 pub mod Keeping
 pub mod Placing
 pub mod Glancing
+pub mod Counting
 pub mod Checks
+pub mod Measuring
+pub mod Alone
 pub mod Looking
 pub mod Lending
 pub mod Determined

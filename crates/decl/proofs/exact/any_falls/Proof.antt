@@ -1,4 +1,4 @@
--- `decl::any_falls` meets its contract. The loop's invariant: `at` is where the archetype's columns begin, and those before it ascend. The measure is how many archetypes are left.
+-- `decl::exact::any_falls` meets its contract. The loop's invariant: `at` is where the archetype's columns begin, and those before it ascend. The measure is how many archetypes are left.
 -- Assumes nothing.
 use Prim.Native.Nat.{_-_, _≤_}
 use mathlib.Core.Bool.{false, not}
@@ -8,8 +8,8 @@ use lib.ListN.{length}
 use Rattle.decl.specs.Lists.{firstOf, rising, anyBelow}
 use Rattle.decl.specs.Steps.{falls}
 use Rattle.decl.proofs.Lists.{any-none, any-more, any-stop, any-done, first-none, part-told}
-use Rattle.decl.proofs.any_falls.Statement.{statement}
-use Rattle.decl.proofs.any_falls.Tie as tie
+use Rattle.decl.proofs.exact.any_falls.Statement.{statement}
+use Rattle.decl.proofs.exact.any_falls.Tie as tie
 
 abbrev Inv-loop : tie.InvT-loop
 Inv-loop widths types at₀ a₀ at a = (a ≤ length widths) × (at ≡ firstOf widths a) × (anyBelow a (falls widths types) ≡ false)

@@ -1,4 +1,4 @@
--- `decl::clash_before` meets its contract. The loop's invariant: `at` is where the archetype's columns begin, and none before it clashes with b. The measure is how many archetypes are left.
+-- `decl::exact::clash_before` meets its contract. The loop's invariant: `at` is where the archetype's columns begin, and none before it clashes with b. The measure is how many archetypes are left.
 -- Assumes nothing.
 use Prim.Native.Nat.{_-_, _≤_}
 use mathlib.Core.Bool.{false}
@@ -9,8 +9,8 @@ use Rattle.decl.specs.Lists.{firstOf, anyBelow}
 use Rattle.decl.specs.Steps.{clashAt}
 use Rattle.decl.proofs.Lists.{any-none, any-more, any-stop, any-done, first-none}
 use Rattle.decl.proofs.Pairs.{clash-lent, clash-told}
-use Rattle.decl.proofs.clash_before.Statement.{statement}
-use Rattle.decl.proofs.clash_before.Tie as tie
+use Rattle.decl.proofs.exact.clash_before.Statement.{statement}
+use Rattle.decl.proofs.exact.clash_before.Tie as tie
 
 abbrev Inv-loop : tie.InvT-loop
 Inv-loop widths types sizes ys ts b at₀ a₀ at a = (a ≤ b) × (at ≡ firstOf widths a) × (anyBelow a (λ k. clashAt widths types sizes k b) ≡ false)

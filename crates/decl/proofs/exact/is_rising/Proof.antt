@@ -1,4 +1,4 @@
--- `decl::is_rising` meets its contract. The loop's invariant: what is left of the list decides. The measure is how much is left.
+-- `decl::exact::is_rising` meets its contract. The loop's invariant: what is left of the list decides. The measure is how much is left.
 -- Assumes nothing.
 use Prim.Native.Nat.{_-_, _≤_}
 use mathlib.Core.Path.{_≡_, refl, sym, _∙_}
@@ -6,8 +6,8 @@ use borrow.Author.Needs.{needs}
 use lib.ListN.{length, drop}
 use Rattle.decl.specs.Lists.{rising}
 use Rattle.decl.proofs.Lists.{rising-stop, rising-next, rising-end}
-use Rattle.decl.proofs.is_rising.Statement.{statement}
-use Rattle.decl.proofs.is_rising.Tie as tie
+use Rattle.decl.proofs.exact.is_rising.Statement.{statement}
+use Rattle.decl.proofs.exact.is_rising.Tie as tie
 
 abbrev Inv-loop : tie.InvT-loop
 Inv-loop xs i₀ i = (i ≤ length xs) × (rising xs ≡ rising (drop i xs))

@@ -1,4 +1,4 @@
--- `decl::any_clash` meets its contract. The loop's invariant: `at` is where the archetype's columns begin, and none before it clashes with one before that. The measure is how many archetypes are left.
+-- `decl::exact::any_clash` meets its contract. The loop's invariant: `at` is where the archetype's columns begin, and none before it clashes with one before that. The measure is how many archetypes are left.
 -- Assumes nothing.
 use Prim.Native.Nat.{_-_, _≤_}
 use mathlib.Core.Bool.{false}
@@ -8,8 +8,8 @@ use lib.ListN.{length}
 use Rattle.decl.specs.Lists.{firstOf, anyBelow, anyPair}
 use Rattle.decl.specs.Steps.{clashAt}
 use Rattle.decl.proofs.Lists.{any-none, any-more, any-stop, any-done, first-none, part-lent}
-use Rattle.decl.proofs.any_clash.Statement.{statement}
-use Rattle.decl.proofs.any_clash.Tie as tie
+use Rattle.decl.proofs.exact.any_clash.Statement.{statement}
+use Rattle.decl.proofs.exact.any_clash.Tie as tie
 
 abbrev Inv-loop : tie.InvT-loop
 Inv-loop widths types sizes at₀ b₀ at b =

@@ -1,4 +1,4 @@
--- `decl::any_above` meets its contract. The loop's invariant: what is left of the list decides. The measure is how much is left.
+-- `decl::exact::any_above` meets its contract. The loop's invariant: what is left of the list decides. The measure is how much is left.
 -- Assumes nothing.
 use Prim.Native.Nat.{_-_}
 use mathlib.Core.Path.{_≡_, refl, sym, _∙_}
@@ -6,8 +6,8 @@ use borrow.Author.Needs.{needs}
 use lib.ListN.{length, drop}
 use Rattle.decl.specs.Lists.{anyAbove}
 use Rattle.decl.proofs.Lists.{above-here, above-next, above-none}
-use Rattle.decl.proofs.any_above.Statement.{statement}
-use Rattle.decl.proofs.any_above.Tie as tie
+use Rattle.decl.proofs.exact.any_above.Statement.{statement}
+use Rattle.decl.proofs.exact.any_above.Tie as tie
 
 abbrev Inv-loop : tie.InvT-loop
 Inv-loop xs max i₀ i = anyAbove max xs ≡ anyAbove max (drop i xs)

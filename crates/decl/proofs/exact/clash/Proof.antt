@@ -1,12 +1,12 @@
--- `decl::clash` meets its contract. The loop's invariant: `Walked`, what the columns that are left say of all. The measure is how many are left.
+-- `decl::exact::clash` meets its contract. The loop's invariant: `Walked`, what the columns that are left say of all. The measure is how many are left.
 -- Assumes nothing.
 use Prim.Native.Nat.{_+_, _-_, _≤_}
 use native.Mathlib.Omega.{arith}
 use borrow.Author.Needs.{needs}
 use lib.ListN.{length}
 use Rattle.decl.proofs.Merge.{Walked, walk-start, walk-found, walk-both, walk-left, walk-right, walk-short, walk-differ, walk-same}
-use Rattle.decl.proofs.clash.Statement.{statement}
-use Rattle.decl.proofs.clash.Tie as tie
+use Rattle.decl.proofs.exact.clash.Statement.{statement}
+use Rattle.decl.proofs.exact.clash.Tie as tie
 
 abbrev Inv-loop : tie.InvT-loop
 Inv-loop xs ss ys ts differ₀ i₀ j₀ differ i j = (i ≤ length xs) × (j ≤ length ys) × Walked xs ss ys ts differ i j

@@ -1,4 +1,4 @@
--- `decl::is_among` meets its contract. The loop's invariant: no mark passed is this one. The measure is how many are left.
+-- `decl::quick::is_among` meets its contract. The loop's invariant: no mark passed is this one. The measure is how many are left.
 -- Assumes nothing.
 use Prim.Native.Nat.{ℕ, _-_, _≤_, _<_}
 use mathlib.Core.Path.{_≡_, sym}
@@ -7,8 +7,8 @@ use borrow.Author.Count.{below-more}
 use borrow.Author.Needs.{needs}
 use lib.ListN.{getD}
 use Rattle.decl.proofs.Lists.{false-true}
-use Rattle.decl.proofs.is_among.Statement.{statement}
-use Rattle.decl.proofs.is_among.Tie as tie
+use Rattle.decl.proofs.quick.is_among.Statement.{statement}
+use Rattle.decl.proofs.quick.is_among.Tie as tie
 
 abbrev Inv-loop : tie.InvT-loop
 Inv-loop marks n mark i₀ i = (i ≤ n) × ((k : ℕ) → k < i → getD marks k 0 ≡ mark → ⊥)

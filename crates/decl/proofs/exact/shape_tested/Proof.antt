@@ -1,4 +1,4 @@
--- `decl::shape_tested` meets its contract: a test that fails decides, since all have the number 12, and where none does each is passed.
+-- `decl::exact::shape_tested` meets its contract: a test that fails decides, since all have the number 12, and where none does each is passed.
 -- Assumes nothing.
 use mathlib.Core.Bool.{not}
 use mathlib.Core.Path.{refl, sym, ap, _∙_}
@@ -7,8 +7,8 @@ use borrow.Author.Tests.{eq-eqb, ne-eqb, lt-ltb, le-ltb}
 use Rattle.decl.specs.Rules.{shapeRules}
 use Rattle.refusal.specs.Chain.{onward, through}
 use Rattle.decl.proofs.Keeping.{allTwelve, testAt, decides, columns-all}
-use Rattle.decl.proofs.shape_tested.Statement.{statement}
-use Rattle.decl.proofs.shape_tested.Tie as tie
+use Rattle.decl.proofs.exact.shape_tested.Statement.{statement}
+use Rattle.decl.proofs.exact.shape_tested.Tie as tie
 
 returns : tie.Need-returns
 unfolding shapeRules allTwelve testAt
