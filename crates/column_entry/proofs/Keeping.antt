@@ -33,19 +33,23 @@ unfolding spanIn
 span-kept d a k h = ap spanOr (sym (span-in d a (k .passes) h))
 
 -- the lengths, compared with what all archetypes take
-module _ (all : Totals) (archetypes numbers counts bytes : ℕ) where
-  pub numbers-wrong : (numbers ≡ all .rows → ⊥) → refused 13 ≡ passing (lengthsFor all archetypes numbers counts bytes)
+module _ (rows archetypes size numbers counts bytes : ℕ) where
+  pub numbers-wrong : (numbers ≡ rows → ⊥) → refused 13 ≡ passing (lengthsFor rows archetypes size numbers counts bytes)
+  unfolding lengthsFor
   numbers-wrong h = applies 13 _ (ap not (ne-eqb _ _ h))
 
-  module _ (p : numbers ≡ all .rows) where
-    pub counts-wrong : (counts ≡ archetypes → ⊥) → refused 13 ≡ passing (lengthsFor all archetypes numbers counts bytes)
+  module _ (p : numbers ≡ rows) where
+    pub counts-wrong : (counts ≡ archetypes → ⊥) → refused 13 ≡ passing (lengthsFor rows archetypes size numbers counts bytes)
+    unfolding lengthsFor
     counts-wrong h = onward 13 _ (ap not (eq-eqb _ _ p)) (applies 13 _ (ap not (ne-eqb _ _ h)))
 
     module _ (q : counts ≡ archetypes) where
-      pub bytes-wrong : (bytes ≡ all .bytes → ⊥) → refused 13 ≡ passing (lengthsFor all archetypes numbers counts bytes)
+      pub bytes-wrong : (bytes ≡ size → ⊥) → refused 13 ≡ passing (lengthsFor rows archetypes size numbers counts bytes)
+      unfolding lengthsFor
       bytes-wrong h = onward 13 _ (ap not (eq-eqb _ _ p)) (onward 13 _ (ap not (eq-eqb _ _ q)) (applies 13 _ (ap not (ne-eqb _ _ h))))
 
-      pub lengths-right : bytes ≡ all .bytes → granted tt ≡ passing (lengthsFor all archetypes numbers counts bytes)
+      pub lengths-right : bytes ≡ size → granted tt ≡ passing (lengthsFor rows archetypes size numbers counts bytes)
+      unfolding lengthsFor
       lengths-right h = onward 13 _ (ap not (eq-eqb _ _ p)) (onward 13 _ (ap not (eq-eqb _ _ q)) (onward 13 _ (ap not (eq-eqb _ _ h)) through))
 
 -- the declaration's tests, then the lengths
@@ -54,7 +58,7 @@ module _ (d : Decl) (w : Rows) where
   unfolding tableRules
   declaration-halts e = stop (declRules d) (lengthRules d w) (measure-refused d e)
 
-  pub lengths-told : {all : Totals} {a : Answer (Unit {0})} → granted all ≡ measured d → a ≡ passing (lengthsFor all (archetypes d) (length (w .numbers)) (length (w .counts)) (length (w .bytes)))
+  pub lengths-told : {all : Totals} {a : Answer (Unit {0})} → granted all ≡ measured d → a ≡ passing (lengthsFor (all .rows) (archetypes d) (all .bytes) (length (w .numbers)) (length (w .counts)) (length (w .bytes)))
       → a ≡ passing (tableRules d w)
   unfolding tableRules lengthRules
   lengths-told e h = go (declRules d) (lengthRules d w) (measure-passed d e) (rw (measure-is d e) at h)
@@ -76,7 +80,7 @@ module _ (rows counts : List ℕ) (a r : ℕ) where
 -- What each run of tests gives.
 module _ (d : Decl) (w : Rows) where
   pub tabled : granted tt ≡ passing (tableRules d w) → Tabled d w
-  unfolding tableRules lengthRules
+  unfolding tableRules lengthRules lengthsFor
   tabled e =
       let p = both (declRules d) _ e in
       let p1 = passed 13 _ _ _ (p .1) in

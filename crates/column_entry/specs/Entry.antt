@@ -8,9 +8,8 @@ use Rattle.refusal.specs.Table.{Rule, _when_, Answer, granted, refused}
 use Rattle.decl.specs.Lists.{anyBelow}
 use Rattle.decl.specs.Decl.{Decl, archetypes, firstRow, rowsOf}
 use Rattle.decl.specs.Rules.{declRules}
-use Rattle.decl.specs.Places.{baseOf, spanned, totalsOf}
+use Rattle.decl.specs.Places.{baseOf, spanned}
 use Rattle.decl.specs.declared.Span.{Span}
-use Rattle.decl.specs.declared.Totals.{Totals}
 use Rattle.row_step.specs.declared.Block.{Block}
 use Rattle.row_step.specs.Tables.{Rows, blockOf}
 
@@ -23,12 +22,13 @@ unfoldable pub spanIn : Decl → ℕ → Span
 spanIn d a = spanOr (spanned d a)
 
 -- Row numbers: one a row of every archetype. Row counts: one an archetype. Bytes: those of all columns.
-abbrev pub lengthsFor : Totals → ℕ → ℕ → ℕ → ℕ → List Rule
-lengthsFor all archetypes numbers counts bytes =
-    13 when not (eqb numbers (all .rows)) ∷ 13 when not (eqb counts archetypes) ∷ 13 when not (eqb bytes (all .bytes)) ∷ []
+unfoldable pub lengthsFor : ℕ → ℕ → ℕ → ℕ → ℕ → ℕ → List Rule
+lengthsFor rows archetypes size numbers counts bytes =
+    13 when not (eqb numbers rows) ∷ 13 when not (eqb counts archetypes) ∷ 13 when not (eqb bytes size) ∷ []
 
 unfoldable pub lengthRules : Decl → Rows → List Rule
-lengthRules d w = lengthsFor (totalsOf d) (archetypes d) (length (w .numbers)) (length (w .counts)) (length (w .bytes))
+lengthRules d w =
+    lengthsFor (firstRow d (archetypes d)) (archetypes d) (baseOf d (archetypes d)) (length (w .numbers)) (length (w .counts)) (length (w .bytes))
 
 -- 12, then 13
 unfoldable pub tableRules : Decl → Rows → List Rule

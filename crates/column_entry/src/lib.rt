@@ -2,7 +2,6 @@
 use decl::Located;
 use decl::Measured;
 use decl::Span;
-use decl::Totals;
 use handle::Row;
 use refusal::Refusal;
 use refusal::Tested;
@@ -43,23 +42,24 @@ pub fn count_of(counts: &[u32], archetype: usize) -> u32
     }
 }
 
-// 13, where all archetypes take `all`.
+// 13, where all archetypes take so many rows and bytes.
 fn lengths_tested(
-    all: Totals,
+    rows: usize,
     archetypes: usize,
+    size: usize,
     numbers: usize,
     counts: usize,
     bytes: usize,
 ) -> Tested
-    ensures { λ r. ⌜ testOf r ≡ passing (lengthsFor all archetypes numbers counts bytes) ⌝ }
+    ensures { λ r. ⌜ testOf r ≡ passing (lengthsFor rows archetypes size numbers counts bytes) ⌝ }
 {
-    if numbers != all.rows {
+    if numbers != rows {
         return Tested::Refused(Refusal::BadLength);
     }
     if counts != archetypes {
         return Tested::Refused(Refusal::BadLength);
     }
-    if bytes != all.bytes {
+    if bytes != size {
         return Tested::Refused(Refusal::BadLength);
     }
     Tested::Passed
@@ -79,8 +79,9 @@ pub fn tables_tested(
 {
     match decl::totals_of(rows, widths, types, sizes) {
         Measured::Of(all) => lengths_tested(
-            all,
+            all.rows,
             rows.len(),
+            all.bytes,
             numbers.len(),
             counts.len(),
             bytes.len(),

@@ -15,4 +15,4 @@ returns-2 c = declaration-halts _ _ (sym (ap measuredOf (c .before .r .given .1)
 
 pub tables-tested-spec : {M : Type 1} → statement M
 tables-tested-spec =
-    tie.close (tie.spec (λ c κs. search needs) (λ c. search needs) (λ c. search needs) (λ c κs. search needs) returns returns-2)
+    tie.close (tie.spec (λ c κs. search needs) (λ c. search needs) (λ c κs. search needs) (λ c. search needs) returns returns-2)
