@@ -10,13 +10,17 @@ use mathlib.Core.Option.{Option}
 use lib.ListN.{getD}
 use Rattle.refusal.specs.Number.{numberOf}
 use Rattle.refusal.specs.Table.{Answer, granted, refused, passing, valueOf, leftOf, Did}
-use Rattle.refusal.specs.Laws.{past, halted}
+use Rattle.refusal.specs.Laws.{past, halted, via}
+use Rattle.refusal.specs.declared.Refusal.the-variants.{ZeroGeneration}
 use Rattle.refusal.specs.declared.Refusal.{Refusal}
 use Rattle.handle.specs.Bits.{placeOf, generationIn, numberIn, answerOf, fromBits}
-use Rattle.handle.specs.RoundTrip.{from-bits-nonzero}
+use Rattle.handle.specs.OnBits.{on-first, on-zero, on-good}
+use Rattle.handle.specs.RoundTrip.{from-bits-nonzero, good}
 use Rattle.handle.specs.declared.Handle.{Handle}
 use Rattle.handle.specs.declared.Bits.{Bits}
 use Rattle.handle.specs.declared.Bits.the-variants.{Good}
+use Rattle.handle.specs.declared.Bits.the-variants as bad
+use Rattle.handle.specs.declared.Number.{Number}
 use Rattle.handle.specs.declared.Place.{Place}
 use Rattle.id_tables.specs.declared.head.Head.{Head}
 use Rattle.id_tables.specs.declared.lookup.Done.{Done}
@@ -39,7 +43,9 @@ use Rattle.column_entry.proofs.Keeping.{span-kept}
 use Rattle.store_steps.proofs.Laws.{block-by, sizes-by}
 use Rattle.store_steps.specs.Parts.{blockBy, partBy}
 use Rattle.store_steps.specs.Seats.{Seats, seatsOf, vacatedSeats, seatedRows}
-use Rattle.store_tables.specs.Store.{Store, storeOf}
+use Rattle.store_tables.proofs.Entering.{entered}
+use Rattle.store_tables.specs.Run.{runWrong}
+use Rattle.store_tables.specs.Store.{Store, storeOf, entry}
 use Rattle.store_tables.specs.Rows.{archetypeOf, rowOf}
 use Rattle.store_tables.specs.Kept.{Entered}
 use Rattle.store_tables.proofs.Places.{owns-means, vacating}
@@ -47,8 +53,8 @@ use Rattle.store_spawn_at.specs.declared.Standing.{Standing}
 use Rattle.store_spawn_at.specs.declared.Standing.the-variants.{Free, Damaged, Seated, Astray}
 use Rattle.store_spawn_at.specs.declared.Choice.{Choice}
 use Rattle.store_spawn_at.specs.declared.Choice.the-variants as choice
-use Rattle.store_spawn_at.specs.SpawnAt.{chosenLive, withoutOld, spawnAtRules, rowTaken, spawnedAt}
-use Rattle.store_spawn_at.specs.Seen.{Stands, Chooses, astray, clearedSeats, Reseats, Settles, doneBy}
+use Rattle.store_spawn_at.specs.SpawnAt.{chosenLive, withoutOld, spawnAtRules, rowTaken, spawnedAt, spawningAt}
+use Rattle.store_spawn_at.specs.Seen.{Stands, Chooses, astray, clearedSeats, Reseats, Settles, doneBy, Picks}
 use Rattle.store_spawn_at.proofs.Laws.{SpawnAtOk, spawn-at-ok, old-left, none-left, way-made, can-choose, still-undoubted}
 use Rattle.store_spawn_at.proofs.Testing.{differ, not-astray}
 
@@ -87,15 +93,14 @@ module _ (k : Block) (sizes : List ℕ) (t : Seats) (a : ℕ) (run : List ℕ) w
       → w ≡ seatedRows k sizes v a n run → Reseats k sizes t a n run (placeOf a count) (seatsOf archetypes indices w)
   reseats n archetypes indices v w count e c q = rw (← e) (record { seats-are = rw q; place-is = rw c })
 
-  pub settles : (n bits h : ℕ) (archetypes indices generations pending : List ℕ) (w : Rows) (place : Place) (head : Head) (said : Chosen) (i : Ids)
-      → Reseats k sizes t a n run place (seatsOf archetypes indices w) → n ≡ numberIn h → bits ≡ h
+  pub settles : (n bits : ℕ) (archetypes indices generations pending : List ℕ) (w : Rows) (place : Place) (head : Head) (said : Chosen) (i : Ids)
+      → Reseats k sizes t a n run place (seatsOf archetypes indices w)
       → Did (allocatingAt (idsOf head generations archetypes indices pending) bits place) (idsOf head generations archetypes indices pending) (chosenOf said) i
-      → Settles k sizes t head generations pending a h run said i w
-  settles n bits h archetypes indices generations pending w place head said i q en eb d =
+      → Settles k sizes t head generations pending a bits n run said i w
+  settles n bits archetypes indices generations pending w place head said i q d =
       let x : archetypes ≡ t .archetypes = ap (λ (u : Seats). u .archetypes) (q .seats-are) in
       let y : indices ≡ t .indices = ap (λ (u : Seats). u .indices) (q .seats-are) in
-      let z : w ≡ seatedRows k sizes (t .rows) a n run = ap (λ (u : Seats). u .rows) (q .seats-are) in
-      record { settles = rw (x, y, q .place-is, eb) at d; rows-are = rw en at z }
+      record { settles = rw (x, y, q .place-is) at d; rows-are = ap (λ (u : Seats). u .rows) (q .seats-are) }
 
 -- what the id layer's answer says, and the head that it hands back
 said-done : (said : Chosen) {o : Option Place} → chosenOf said ≡ granted o → doneOf (doneBy said) ≡ granted tt
@@ -135,23 +140,20 @@ module _ (s : Store) (a n n′ : ℕ) (en : n′ ≡ n) where
   unfolding Chooses
   refuses x e = rw en at e
 
-  pub grants : (st : Standing) → Stands s n′ st → granted tt ≡ passing (spawnAtRules s a n′) → Chooses s a n (choice.Granted st)
+  pub grants : (number : Number) → number .0 ≡ n → (st : Standing) → Stands s n′ st → granted tt ≡ passing (spawnAtRules s a n′) → Chooses s a n (choice.Granted number st)
   unfolding Chooses
-  grants st k e = (rw en at k, rw en at e)
+  grants number i st k e = (rw en at k, rw en at e, i)
 
 module _ (s : Store) (a n : ℕ) where
-  pub number-refuses : (run : List ℕ) (g : ℕ) (r : Choice) (x : Refusal) → Chooses s a n r → r ≡ choice.Refused x → spawnedAt s a run g n ≡ refused (numberOf x)
+  number-refuses : (run : List ℕ) (g : ℕ) (r : Choice) (x : Refusal) → Chooses s a n r → r ≡ choice.Refused x → spawnedAt s a run g n ≡ refused (numberOf x)
   unfolding spawnedAt Chooses
   number-refuses run g r x k p = halted (spawnAtRules s a n) _ (rw p at k)
 
-  pub goes : (run : List ℕ) (g : ℕ) (r : Choice) (st : Standing) → Chooses s a n r → r ≡ choice.Granted st → spawnedAt s a run g n ≡ rowTaken (withoutOld s n) a run g n
+  goes : (run : List ℕ) (g : ℕ) (number : Number) (st : Standing) → Chooses s a n (choice.Granted number st) → spawnedAt s a run g n ≡ rowTaken (withoutOld s n) a run g n
   unfolding spawnedAt Chooses
-  goes run g r st k p = let q : Chooses s a n (choice.Granted st) = rw p at k in past (spawnAtRules s a n) _ (q .1)
+  goes run g number st k = past (spawnAtRules s a n) _ (k .1)
 
-  pub chosen-told : (r t : Choice) → Chooses s a n r → r ≡ t → Chooses s a n t
-  chosen-told r t k p = rw p at k
-
-  module _ (st : Standing) (k : Chooses s a n (choice.Granted st)) where
+  module _ (number : Number) (st : Standing) (k : Chooses s a n (choice.Granted number st)) where
     stands : Stands s n st
     unfolding Chooses
     stands = k .0
@@ -164,7 +166,11 @@ module _ (s : Store) (a n : ℕ) where
     unfolding Chooses
     ok = spawn-at-ok s a n (k .1)
 
-    pub span-is : (span : Span) → Entered s → span ≡ spanIn (s .decl) a → span ≡ spanOf (s .decl) a
+    number-is : number .0 ≡ n
+    unfolding Chooses
+    number-is = k .2
+
+    span-is : (span : Span) → Entered s → span ≡ spanIn (s .decl) a → span ≡ spanOf (s .decl) a
     span-is span e p = p ∙ span-kept (s .decl) a (e .rows .tabled .kept) (omega (arith, ok .archetype-in))
 
 -- in store t, the way that was made
@@ -182,8 +188,8 @@ module _ (s : Store) (a n : ℕ) (e : Entered s) (k : SpawnAtOk s a n) (t : Stor
   has-spawned : (run : List ℕ) (g : ℕ) {said : Answer (Unit {0})} {left : Store} → Did (rowTaken t a run g n) t said left → Did (rowTaken (withoutOld s n) a run g n) s said left
   has-spawned run g d = record { answer = d .answer; leaves = rw (← q) (d .leaves) }
 
-module _ (s : Store) (h a : ℕ) (e : Entered s) (nz : generationIn h ≡ 0 → ⊥) (st : Standing) (k : Chooses s a (numberIn h) (choice.Granted st)) (span : Span)
-    (p : span ≡ spanOf (s .decl) a) where
+module _ (s : Store) (h a : ℕ) (e : Entered s) (nz : generationIn h ≡ 0 → ⊥) (number : Number) (st : Standing) (k : Chooses s a (numberIn h) (choice.Granted number st)) (span : Span)
+    (p : span ≡ spanIn (s .decl) a) where
   abbrev cleared : Seats
   cleared = clearedSeats (s .decl .rows) (s .decl .sizes) (seatsOf (s .ids .archetypes) (s .ids .indices) (s .rows)) st
 
@@ -191,16 +197,48 @@ module _ (s : Store) (h a : ℕ) (e : Entered s) (nz : generationIn h ≡ 0 → 
   t = storeOf (s .decl) (idsOf (s .ids .head) (s .ids .generations) (cleared .archetypes) (cleared .indices) (s .ids .pending)) (cleared .rows) (s .words)
 
   way : t ≡ withoutOld s (numberIn h)
-  way = way-is s (numberIn h) e (cleared .archetypes) (cleared .indices) (cleared .rows) st (stands s a (numberIn h) st k) (no-stray s a (numberIn h) st k) refl
+  way = way-is s (numberIn h) e (cleared .archetypes) (cleared .indices) (cleared .rows) st (stands s a (numberIn h) number st k) (no-stray s a (numberIn h) number st k) refl
 
-  pub has-settled : (run : List ℕ) (w : Rows) (said : Chosen) (r : Done) (g x y q : List ℕ)
-      → Settles (blockBy (s .decl .rows) span a) (partBy (s .decl .sizes) span) cleared (s .ids .head) (s .ids .generations) (s .ids .pending) a h run said (idsOf (chosenHead (s .ids .head) said) g x y q) w
+  has-settled : (run : List ℕ) (w : Rows) (said : Chosen) (r : Done) (g x y q : List ℕ)
+      → Settles (blockBy (s .decl .rows) span a) (partBy (s .decl .sizes) span) cleared (s .ids .head) (s .ids .generations) (s .ids .pending) a h (number .0) run said (idsOf (chosenHead (s .ids .head) said) g x y q) w
       → r ≡ doneBy said
       → Did (rowTaken (withoutOld s (numberIn h)) a run (generationIn h) (numberIn h)) s (doneOf r) (storeOf (s .decl) (idsOf (headAfter (s .ids .head) r) g x y q) w (s .words))
   has-settled run w said r g x y q l ed =
-      let f = ok s a (numberIn h) st k in
+      let f = ok s a (numberIn h) number st k in
       has-spawned s a (numberIn h) e f t way run (generationIn h)
-      (has-taken t h a (enters s a (numberIn h) e f t way) nz (may-choose s a (numberIn h) e f t way) (no-doubt s a (numberIn h) e f t way) span p run w said r g x y q (l .rows-are) (l .settles) ed)
+      (has-taken t h a (enters s a (numberIn h) e f t way) nz (may-choose s a (numberIn h) e f t way) (no-doubt s a (numberIn h) e f t way) span (span-is s a (numberIn h) number st k span e p) run w said r g x y q
+      (rw (number-is s a (numberIn h) number st k) at (l .rows-are)) (l .settles) ed)
 
-pub handle-nonzero : (b : ℕ) (r : Bits) (h : Handle) → answerOf r ≡ fromBits b → r ≡ Good h → generationIn (h .0) ≡ 0 → ⊥
-handle-nonzero b r h a p = from-bits-nonzero b h (sym (ap answerOf p) ∙ a)
+-- what is found of a handle's bits, and what the steps then leave
+module _ (s : Store) (bits a : ℕ) (run : List ℕ) where
+  pub refused-first : (x : Refusal) → refused (numberOf x) ≡ passing (entry s (runWrong (s .decl) a run)) → Picks s bits a run (choice.Refused x)
+  unfolding Picks spawningAt
+  refused-first x e = on-first _ _ _ e
+
+  module _ (e : granted tt ≡ passing (entry s (runWrong (s .decl) a run))) (r : Bits) (q : answerOf r ≡ fromBits bits) where
+    pub refused-zero : (x : Refusal) → r ≡ bad.Refused x → Picks s bits a run (choice.Refused ZeroGeneration)
+    unfolding Picks spawningAt
+    refused-zero x p = on-zero _ _ _ r x e q p
+
+    pub number-found : (h : Handle) → r ≡ Good h → (c : Choice) → Chooses s a (numberIn (h .0)) c → Picks s bits a run c
+    unfolding Picks spawningAt
+    number-found h p (choice.Refused x) k = on-good _ _ _ r h e q p ∙ number-refuses s a (numberIn (h .0)) run (generationIn (h .0)) (choice.Refused x) x k refl
+    number-found h p (choice.Granted number st) k =
+        let i = good bits r h q p .0 in
+        let f : spawnedAt s a run (generationIn (h .0)) (numberIn (h .0)) ≡ rowTaken (withoutOld s (numberIn (h .0))) a run (generationIn (h .0)) (numberIn (h .0)) =
+        goes s a (numberIn (h .0)) run (generationIn (h .0)) number st k in
+        (entered s _ e, rw i at (from-bits-nonzero bits h (sym (ap answerOf p) ∙ q)), rw i at k, rw i at (on-good (entry s (runWrong (s .decl) a run)) bits (spawnedAt s a run) r h e q p ∙ f))
+
+  module _ (c : Choice) (f : Picks s bits a run c) where
+    pub refused-so : (x : Refusal) → c ≡ choice.Refused x → spawningAt s bits a run ≡ refused (numberOf x)
+    unfolding Picks
+    refused-so x p = rw p at f
+
+    pub spawns : (number : Number) (st : Standing) → c ≡ choice.Granted number st → (span : Span) → span ≡ spanIn (s .decl) a → (w : Rows) (said : Chosen) (r : Done) (g x y q : List ℕ)
+        → Settles (blockBy (s .decl .rows) span a) (partBy (s .decl .sizes) span) (clearedSeats (s .decl .rows) (s .decl .sizes) (seatsOf (s .ids .archetypes) (s .ids .indices) (s .rows)) st)
+        (s .ids .head) (s .ids .generations) (s .ids .pending) a bits (number .0) run said (idsOf (chosenHead (s .ids .head) said) g x y q) w
+        → r ≡ doneBy said → Did (spawningAt s bits a run) s (doneOf r) (storeOf (s .decl) (idsOf (headAfter (s .ids .head) r) g x y q) w (s .words))
+    unfolding Picks
+    spawns number st p span i w said r g x y q l d =
+        let k : Picks s bits a run (choice.Granted number st) = rw p at f in
+        via (k .3) (has-settled s bits a (k .0) (k .1) number st (k .2) span i run w said r g x y q l d)

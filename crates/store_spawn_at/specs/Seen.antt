@@ -8,7 +8,7 @@ use lib.Dec.{leb, eqb}
 use lib.ListN.{getD}
 use Rattle.refusal.specs.Number.{numberOf}
 use Rattle.refusal.specs.Table.{granted, refused, passing, Did}
-use Rattle.handle.specs.Bits.{placeOf, numberIn}
+use Rattle.handle.specs.Bits.{placeOf, generationIn, numberIn}
 use Rattle.handle.specs.declared.Place.{Place}
 use Rattle.id_tables.specs.declared.head.Head.{Head}
 use Rattle.id_tables.specs.declared.lookup.Done.{Done}
@@ -26,11 +26,12 @@ use Rattle.store_steps.specs.Seats.{Seats, seatsOf, seatedRows, vacatedSeats}
 use Rattle.store_tables.specs.Store.{Store}
 use Rattle.store_tables.specs.Rows.{archetypeOf, owns}
 use Rattle.store_tables.specs.Seen.{movedSeen}
+use Rattle.store_tables.specs.Kept.{Entered}
 use Rattle.store_spawn_at.specs.declared.Standing.{Standing}
 use Rattle.store_spawn_at.specs.declared.Standing.the-variants.{Free, Damaged, Seated, Astray}
 use Rattle.store_spawn_at.specs.declared.Choice.{Choice}
 use Rattle.store_spawn_at.specs.declared.Choice.the-variants as choice
-use Rattle.store_spawn_at.specs.SpawnAt.{chosenLive, spawnAtRules}
+use Rattle.store_spawn_at.specs.SpawnAt.{chosenLive, withoutOld, spawnAtRules, rowTaken, spawningAt}
 
 -- what is found, in the rule's words
 unfoldable pub Stands : Store → ℕ → Standing → Type 0
@@ -42,8 +43,15 @@ Stands s n Astray = (chosenLive (s .ids) n ≡ true) × (owns s n ≡ false)
 
 -- the tests of the number have passed and it is this, or the first that has not gives its number
 unfoldable pub Chooses : Store → ℕ → ℕ → Choice → Type 0
-Chooses s a n (choice.Granted standing) = Stands s n standing × (granted tt ≡ passing (spawnAtRules s a n))
+Chooses s a n (choice.Granted number standing) = Stands s n standing × (granted tt ≡ passing (spawnAtRules s a n)) × (number .0 ≡ n)
 Chooses s a n (choice.Refused r) = refused (numberOf r) ≡ passing (spawnAtRules s a n)
+
+-- and of a handle's bits: why it is refused, or what the number is where it is not
+unfoldable pub Picks : Store → ℕ → ℕ → List ℕ → Choice → Type 0
+Picks s bits a run (choice.Granted number standing) =
+    Entered s × (generationIn bits ≡ 0 → ⊥) × Chooses s a (numberIn bits) (choice.Granted number standing)
+    × (spawningAt s bits a run ≡ rowTaken (withoutOld s (numberIn bits)) a run (generationIn bits) (numberIn bits))
+Picks s bits a run (choice.Refused r) = spawningAt s bits a run ≡ refused (numberOf r)
 
 abbrev pub astray : Standing → Bool
 astray Free = false
@@ -85,9 +93,9 @@ pub record Reseats (k : Block) (sizes : List ℕ) (t : Seats) (a n : ℕ) (run :
   pub place-is : place ≡ placeOf a (countOf (t .rows) a)
 
 -- and the id layer gives the number that place: what it said, and what is left then
-pub record Settles (k : Block) (sizes : List ℕ) (t : Seats) (head : Head) (generations pending : List ℕ) (a bits : ℕ) (run : List ℕ) (said : Chosen) (i : Ids) (w : Rows) : Type 0 where
+pub record Settles (k : Block) (sizes : List ℕ) (t : Seats) (head : Head) (generations pending : List ℕ) (a bits n : ℕ) (run : List ℕ) (said : Chosen) (i : Ids) (w : Rows) : Type 0 where
   pub settles : Did (allocatingAt (idsOf head generations (t .archetypes) (t .indices) pending) bits (placeOf a (countOf (t .rows) a))) (idsOf head generations (t .archetypes) (t .indices) pending) (chosenOf said) i
-  pub rows-are : w ≡ seatedRows k sizes (t .rows) a (numberIn bits) run
+  pub rows-are : w ≡ seatedRows k sizes (t .rows) a n run
 
 -- the head of the id layer's answer, which is all that is answered
 abbrev pub doneBy : Chosen → Done

@@ -27,12 +27,13 @@ ghost use Rattle.id_tables.specs.Lookup.{doneOf, headAfter};
 ghost use Rattle.ids.specs.Answers.{chosenHead};
 ghost use Rattle.decl.specs.Decl.{declOf};
 ghost use Rattle.row_step.specs.Tables.{tablesOf};
+ghost use Rattle.column_entry.specs.Entry.{spanIn};
 ghost use Rattle.store_steps.specs.Parts.{blockBy, partBy};
 ghost use Rattle.store_steps.specs.Seats.{seatsOf};
 ghost use Rattle.store_tables.specs.Store.{storeOf};
 ghost use Rattle.store_tables.specs.Kept.{Entered};
 ghost use Rattle.store_spawn_at.specs.SpawnAt.{spawningAt};
-ghost use Rattle.store_spawn_at.specs.Seen.{Stands, Chooses, astray, leavingFrom, fullSeen, damagedSeen, clearedSeats, Reseats, Settles, doneBy};
+ghost use Rattle.store_spawn_at.specs.Seen.{Stands, Chooses, astray, leavingFrom, fullSeen, damagedSeen, Picks, clearedSeats, Reseats, Settles, doneBy};
 
 // What the chosen number is: it is not live and can be taken, or its entry is damaged; it is live in a row of its own, whose archetype has this part of the tables, or no row is its own.
 enum Standing {
@@ -42,9 +43,9 @@ enum Standing {
     Astray,
 }
 
-// What the chosen number is, once every test has passed.
+// The chosen number and what it is, once every test has passed.
 enum Choice {
-    Granted(Standing),
+    Granted(Number, Standing),
     Refused(Refusal),
 }
 
@@ -212,7 +213,71 @@ fn choose(
     if is_any_damaged(head.used, archetypes, indices, numbers, counts, standing) {
         return Choice::Refused(Refusal::Damaged);
     }
-    Choice::Granted(standing)
+    Choice::Granted(number, standing)
+}
+
+// What a spawn at tests, where its archetype has this part of the tables.
+fn choice_for(
+    head: Head,
+    rows: &[u32],
+    widths: &[u32],
+    types: &[u32],
+    sizes: &[u32],
+    generations: &[u32],
+    archetypes: &[u32],
+    indices: &[u32],
+    pending: &[u32],
+    numbers: &[u32],
+    counts: &[u32],
+    bytes: &[u8],
+    words: &[u64],
+    bits: u64,
+    archetype: usize,
+    run: &[u8],
+    span: Span,
+) -> Choice
+    requires { ⌜ span ≡ spanIn (declOf (now rows) (now widths) (now types) (now sizes)) archetype ⌝ }
+    ensures { λ r. ⌜ Picks (storeOf (declOf (now (rows .entry)) (now (widths .entry)) (now (types .entry)) (now (sizes .entry))) (idsOf head (now (generations .entry)) (now (archetypes .entry)) (now (indices .entry)) (now (pending .entry))) (tablesOf (now (numbers .entry)) (now (counts .entry)) (now (bytes .entry))) (now (words .entry))) bits archetype (now (run .entry)) r ⌝ }
+{
+    let short = is_run_wrong(rows.len(), archetype, run.len(), span.bytes);
+    if let Tested::Refused(r) = store_tables::tested(
+        head,
+        rows,
+        widths,
+        types,
+        sizes,
+        generations,
+        archetypes,
+        indices,
+        pending,
+        numbers,
+        counts,
+        bytes,
+        words,
+        short,
+    ) {
+        return Choice::Refused(r);
+    }
+    let Bits::Good(handle) = Handle::from_bits(bits) else {
+        return Choice::Refused(Refusal::ZeroGeneration);
+    };
+    choose(
+        head,
+        rows,
+        widths,
+        types,
+        sizes,
+        generations,
+        archetypes,
+        indices,
+        pending,
+        numbers,
+        counts,
+        bytes,
+        words,
+        handle,
+        archetype,
+    )
 }
 
 // The old row of a live number leaves.
@@ -294,13 +359,14 @@ fn settle(
     numbers: &mut [u32],
     counts: &mut [u32],
     bytes: &mut [u8],
-    handle: Handle,
+    bits: u64,
+    number: Number,
     archetype: u32,
     run: &[u8],
     span: Span,
     standing: Standing,
 ) -> Chosen
-    ensures { λ r. ⌜ Settles (blockBy (now (rows .entry)) span archetype) (partBy (now (sizes .entry)) span) (clearedSeats (now (rows .entry)) (now (sizes .entry)) (seatsOf (now (archetypes .entry)) (now (indices .entry)) (tablesOf (now (numbers .entry)) (now (counts .entry)) (now (bytes .entry)))) standing) head (now (generations .entry)) (now (pending .entry)) archetype (handle .0) (now (run .entry)) r (idsOf (chosenHead head r) (now (generations .exit)) (now (archetypes .exit)) (now (indices .exit)) (now (pending .exit))) (tablesOf (now (numbers .exit)) (now (counts .exit)) (now (bytes .exit))) ⌝ }
+    ensures { λ r. ⌜ Settles (blockBy (now (rows .entry)) span archetype) (partBy (now (sizes .entry)) span) (clearedSeats (now (rows .entry)) (now (sizes .entry)) (seatsOf (now (archetypes .entry)) (now (indices .entry)) (tablesOf (now (numbers .entry)) (now (counts .entry)) (now (bytes .entry)))) standing) head (now (generations .entry)) (now (pending .entry)) archetype bits (number .0) (now (run .entry)) r (idsOf (chosenHead head r) (now (generations .exit)) (now (archetypes .exit)) (now (indices .exit)) (now (pending .exit))) (tablesOf (now (numbers .exit)) (now (counts .exit)) (now (bytes .exit))) ⌝ }
 {
     let place = reseat(
         rows,
@@ -313,18 +379,10 @@ fn settle(
         standing,
         span,
         archetype,
-        handle.id(),
+        number,
         run,
     );
-    ids::alloc_at(
-        head,
-        generations,
-        archetypes,
-        indices,
-        pending,
-        handle.to_bits(),
-        place,
-    )
+    ids::alloc_at(head, generations, archetypes, indices, pending, bits, place)
 }
 
 // The head that the id layer hands back.
@@ -361,8 +419,7 @@ pub fn spawn_at(
 {
     let a = archetype as usize;
     let span = column_entry::span(rows, widths, types, sizes, a);
-    let short = is_run_wrong(rows.len(), a, run.len(), span.bytes);
-    if let Tested::Refused(r) = store_tables::tested(
+    match choice_for(
         head,
         rows,
         widths,
@@ -376,32 +433,13 @@ pub fn spawn_at(
         counts,
         bytes,
         words,
-        short,
-    ) {
-        return Done::Refused(r);
-    }
-    let Bits::Good(handle) = Handle::from_bits(bits) else {
-        return Done::Refused(Refusal::ZeroGeneration);
-    };
-    match choose(
-        head,
-        rows,
-        widths,
-        types,
-        sizes,
-        generations,
-        archetypes,
-        indices,
-        pending,
-        numbers,
-        counts,
-        bytes,
-        words,
-        handle,
+        bits,
         a,
+        run,
+        span,
     ) {
         Choice::Refused(r) => Done::Refused(r),
-        Choice::Granted(standing) => {
+        Choice::Granted(number, standing) => {
             let said = settle(
                 head,
                 rows,
@@ -413,7 +451,8 @@ pub fn spawn_at(
                 numbers,
                 counts,
                 bytes,
-                handle,
+                bits,
+                number,
                 archetype,
                 run,
                 span,

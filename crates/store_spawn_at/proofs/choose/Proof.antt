@@ -33,7 +33,7 @@ returns-7 : tie.Need-returns-7
 returns-7 c = refuses _ _ _ _ (c .before .before .before .before .before .before .before .before .before .before .before .before .before .before .id .ensures) _ (bad _ _ _ (sym (c .before .before .before .before .before .before .before .before .before .before .before .before .is-flushed .ensures) ∙ not-false _ (c .before .before .before .before .before .before .before .before .before .before .before .if1 .left)) (c .before .before .before .before .before .before .before .before .before .before .if2 .left) _ (c .before .before .before .before .before .before .before .before .before .before .before .before .before .standing-of .ensures) (sym (c .before .before .before .before .before .before .before .before .before .is-astray .ensures) ∙ c .before .before .before .before .before .before .before .before .if3 .left) (sym (c .before .before .before .before .before .before .before .any-held .ensures) ∙ c .before .before .before .before .before .before .if4 .left) (c .before .before .before .before .if5 .left) (c .before .before .before .before .before .before .before .before .before .before .before .before .before .before .before .before .before .before .before .before .before .before .before .before .before .before .before .pre) (sym (c .before .before .before .is-full .ensures) ∙ c .before .before .if6 .left) (sym (c .before .is-any-damaged .ensures) ∙ c .if7 .taken))
 
 returns-8 : tie.Need-returns-8
-returns-8 c = grants _ _ _ _ (c .before .before .before .before .before .before .before .before .before .before .before .before .before .before .id .ensures) _ (c .before .before .before .before .before .before .before .before .before .before .before .before .before .standing-of .ensures) (passes _ _ _ (sym (c .before .before .before .before .before .before .before .before .before .before .before .before .is-flushed .ensures) ∙ not-false _ (c .before .before .before .before .before .before .before .before .before .before .before .if1 .left)) (c .before .before .before .before .before .before .before .before .before .before .if2 .left) _ (c .before .before .before .before .before .before .before .before .before .before .before .before .before .standing-of .ensures) (sym (c .before .before .before .before .before .before .before .before .before .is-astray .ensures) ∙ c .before .before .before .before .before .before .before .before .if3 .left) (sym (c .before .before .before .before .before .before .before .any-held .ensures) ∙ c .before .before .before .before .before .before .if4 .left) (c .before .before .before .before .if5 .left) (c .before .before .before .before .before .before .before .before .before .before .before .before .before .before .before .before .before .before .before .before .before .before .before .before .before .before .before .pre) (sym (c .before .before .before .is-full .ensures) ∙ c .before .before .if6 .left) (sym (c .before .is-any-damaged .ensures) ∙ c .if7 .left))
+returns-8 c = grants _ _ _ _ (c .before .before .before .before .before .before .before .before .before .before .before .before .before .before .id .ensures) _ (c .before .before .before .before .before .before .before .before .before .before .before .before .before .before .id .ensures) _ (c .before .before .before .before .before .before .before .before .before .before .before .before .before .standing-of .ensures) (passes _ _ _ (sym (c .before .before .before .before .before .before .before .before .before .before .before .before .is-flushed .ensures) ∙ not-false _ (c .before .before .before .before .before .before .before .before .before .before .before .if1 .left)) (c .before .before .before .before .before .before .before .before .before .before .if2 .left) _ (c .before .before .before .before .before .before .before .before .before .before .before .before .before .standing-of .ensures) (sym (c .before .before .before .before .before .before .before .before .before .is-astray .ensures) ∙ c .before .before .before .before .before .before .before .before .if3 .left) (sym (c .before .before .before .before .before .before .before .any-held .ensures) ∙ c .before .before .before .before .before .before .if4 .left) (c .before .before .before .before .if5 .left) (c .before .before .before .before .before .before .before .before .before .before .before .before .before .before .before .before .before .before .before .before .before .before .before .before .before .before .before .pre) (sym (c .before .before .before .is-full .ensures) ∙ c .before .before .if6 .left) (sym (c .before .is-any-damaged .ensures) ∙ c .if7 .left))
 
 pub choose-spec : {M : Type 1} → statement M
 choose-spec =

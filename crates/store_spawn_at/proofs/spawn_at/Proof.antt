@@ -1,36 +1,44 @@
--- `store_spawn_at::spawn_at` meets its contract: the first tests refuse, or the handle does, or its number; else that settles.
+-- `store_spawn_at::spawn_at` meets its contract: its tests refuse, or the number has settled.
 -- Assumes nothing.
-use Rattle.store_spawn_at.proofs.Taking.{has-settled, number-refuses, goes, chosen-told, span-is, handle-nonzero}
-use Rattle.store_spawn_at.specs.SpawnAt.{spawningAt}
-use Rattle.store_tables.proofs.Running.{first-tests}
-use Rattle.store_tables.proofs.Entering.{entered}
-use Rattle.handle.specs.OnBits.{on-first, on-zero, on-good}
-use Rattle.refusal.specs.Laws.{refuse, via, told}
-use mathlib.Core.Path.{_∙_}
+use native.Mathlib.Omega.{arith}
+use mathlib.Core.Path.{refl}
+use Rattle.refusal.specs.Laws.{refuse}
+use Rattle.store_spawn_at.proofs.Taking.{refused-so, spawns}
 use borrow.Author.Needs.{needs}
 use Rattle.store_spawn_at.proofs.spawn_at.Statement.{statement}
 use Rattle.store_spawn_at.proofs.spawn_at.Tie as tie
 
+choice-for-requires : tie.Need-choice-for-requires
+choice-for-requires c κs = c .before .before .before .before .before .before .before .span .ensures
+
 returns : tie.Need-returns
-unfolding spawningAt
-returns c = refuse (on-first _ _ _ (told _ _ (c .before .before .before .tested .ensures) (c .before .r .given .1) ∙ first-tests _ _ _ _ _ (c .before .before .before .before .before .before .before .before .before .before .before .before .span .ensures) (c .before .before .before .before .before .before .before .before .before .before .before .is-run-wrong .ensures)))
+returns c = refuse (refused-so _ _ _ _ _ (c .before .before .before .choice-for .ensures) _ (c .before .r .given .1))
+
+same-length-8 : tie.Need-same-length-8
+same-length-8 c = omega (arith, c .before .before .before .before .before .before .before .before .before .before .before .before .before .before .generations .given)
+
+same-length-9 : tie.Need-same-length-9
+same-length-9 c = omega (arith, c .before .before .before .before .before .before .before .before .before .before .before .before .archetypes .given)
+
+same-length-10 : tie.Need-same-length-10
+same-length-10 c = omega (arith, c .before .before .before .before .before .before .before .before .before .before .indices .given)
+
+same-length-11 : tie.Need-same-length-11
+same-length-11 c = omega (arith, c .before .before .before .before .before .before .before .before .pending .given)
+
+same-length-12 : tie.Need-same-length-12
+same-length-12 c = omega (arith, c .before .before .before .before .before .before .numbers .given)
+
+same-length-13 : tie.Need-same-length-13
+same-length-13 c = omega (arith, c .before .before .before .before .counts .given)
+
+same-length-14 : tie.Need-same-length-14
+same-length-14 c = omega (arith, c .before .before .bytes .given)
 
 returns-2 : tie.Need-returns-2
-unfolding spawningAt
-returns-2 c = refuse (on-zero _ _ _ _ _ (told _ _ (c .before .before .before .before .before .tested .ensures) (c .before .before .before .enum-told .given .1) ∙ first-tests _ _ _ _ _ (c .before .before .before .before .before .before .before .before .before .before .before .before .before .before .span .ensures) (c .before .before .before .before .before .before .before .before .before .before .before .before .before .is-run-wrong .ensures)) (c .before .before .from-bits .ensures) (c .enum-told2 .given .1))
-
-choose-requires : tie.Need-choose-requires
-choose-requires c κs = entered _ _ (told _ _ (c .before .before .before .before .before .before .before .before .before .before .before .before .before .tested .ensures) (c .before .before .before .before .before .before .before .before .before .before .before .enum-told .given .1))
-
-returns-3 : tie.Need-returns-3
-unfolding spawningAt
-returns-3 c = refuse (on-good _ _ _ _ _ (told _ _ (c .before .before .before .before .before .before .before .before .before .before .before .before .before .before .before .before .before .tested .ensures) (c .before .before .before .before .before .before .before .before .before .before .before .before .before .before .before .enum-told .given .1) ∙ first-tests _ _ _ _ _ (c .before .before .before .before .before .before .before .before .before .before .before .before .before .before .before .before .before .before .before .before .before .before .before .before .before .before .span .ensures) (c .before .before .before .before .before .before .before .before .before .before .before .before .before .before .before .before .before .before .before .before .before .before .before .before .before .is-run-wrong .ensures)) (c .before .before .before .before .before .before .before .before .before .before .before .before .before .before .from-bits .ensures) (c .before .before .before .before .before .before .before .before .before .before .before .before .handle .given .1) ∙ number-refuses _ _ _ _ _ _ _ (c .before .before .before .choose .ensures) (c .before .r2 .given .1))
-
-returns-4 : tie.Need-returns-4
-unfolding spawningAt
-returns-4 c = via (on-good _ _ _ _ _ (told _ _ (c .before .before .before .before .before .before .before .before .before .before .before .before .before .before .before .before .before .before .before .before .before .before .before .before .before .before .before .before .before .before .before .before .before .before .before .before .before .before .before .before .tested .ensures) (c .before .before .before .before .before .before .before .before .before .before .before .before .before .before .before .before .before .before .before .before .before .before .before .before .before .before .before .before .before .before .before .before .before .before .before .before .before .before .enum-told .given .1) ∙ first-tests _ _ _ _ _ (c .before .before .before .before .before .before .before .before .before .before .before .before .before .before .before .before .before .before .before .before .before .before .before .before .before .before .before .before .before .before .before .before .before .before .before .before .before .before .before .before .before .before .before .before .before .before .before .before .before .span .ensures) (c .before .before .before .before .before .before .before .before .before .before .before .before .before .before .before .before .before .before .before .before .before .before .before .before .before .before .before .before .before .before .before .before .before .before .before .before .before .before .before .before .before .before .before .before .before .before .before .before .is-run-wrong .ensures)) (c .before .before .before .before .before .before .before .before .before .before .before .before .before .before .before .before .before .before .before .before .before .before .before .before .before .before .before .before .before .before .before .before .before .before .before .before .before .from-bits .ensures) (c .before .before .before .before .before .before .before .before .before .before .before .before .before .before .before .before .before .before .before .before .before .before .before .before .before .before .before .before .before .before .before .before .before .before .before .handle .given .1) ∙ goes _ _ _ _ _ _ _ (c .before .before .before .before .before .before .before .before .before .before .before .before .before .before .before .before .before .before .before .before .before .before .before .before .before .before .choose .ensures) (c .before .before .before .before .before .before .before .before .before .before .before .before .before .before .before .before .before .before .before .before .before .before .before .before .standing .given .1)) (has-settled _ _ _ (entered _ _ (told _ _ (c .before .before .before .before .before .before .before .before .before .before .before .before .before .before .before .before .before .before .before .before .before .before .before .before .before .before .before .before .before .before .before .before .before .before .before .before .before .before .before .before .tested .ensures) (c .before .before .before .before .before .before .before .before .before .before .before .before .before .before .before .before .before .before .before .before .before .before .before .before .before .before .before .before .before .before .before .before .before .before .before .before .before .before .enum-told .given .1))) (handle-nonzero _ _ _ (c .before .before .before .before .before .before .before .before .before .before .before .before .before .before .before .before .before .before .before .before .before .before .before .before .before .before .before .before .before .before .before .before .before .before .before .before .before .from-bits .ensures) (c .before .before .before .before .before .before .before .before .before .before .before .before .before .before .before .before .before .before .before .before .before .before .before .before .before .before .before .before .before .before .before .before .before .before .before .handle .given .1)) _ (chosen-told _ _ _ _ _ (c .before .before .before .before .before .before .before .before .before .before .before .before .before .before .before .before .before .before .before .before .before .before .before .before .before .before .choose .ensures) (c .before .before .before .before .before .before .before .before .before .before .before .before .before .before .before .before .before .before .before .before .before .before .before .before .standing .given .1)) _ (span-is _ _ _ _ (chosen-told _ _ _ _ _ (c .before .before .before .before .before .before .before .before .before .before .before .before .before .before .before .before .before .before .before .before .before .before .before .before .before .before .choose .ensures) (c .before .before .before .before .before .before .before .before .before .before .before .before .before .before .before .before .before .before .before .before .before .before .before .before .standing .given .1)) _ (entered _ _ (told _ _ (c .before .before .before .before .before .before .before .before .before .before .before .before .before .before .before .before .before .before .before .before .before .before .before .before .before .before .before .before .before .before .before .before .before .before .before .before .before .before .before .before .tested .ensures) (c .before .before .before .before .before .before .before .before .before .before .before .before .before .before .before .before .before .before .before .before .before .before .before .before .before .before .before .before .before .before .before .before .before .before .before .before .before .before .enum-told .given .1))) (c .before .before .before .before .before .before .before .before .before .before .before .before .before .before .before .before .before .before .before .before .before .before .before .before .before .before .before .before .before .before .before .before .before .before .before .before .before .before .before .before .before .before .before .before .before .before .before .before .before .span .ensures)) _ _ _ _ _ _ _ _ (c .before .before .before .before .before .before .before .before .before .before .before .before .before .before .before .settle .ensures) (c .done-by .ensures))
+returns-2 c = spawns _ _ _ _ _ (c .before .before .before .before .before .before .before .before .before .before .before .before .before .before .before .before .before .before .before .before .before .before .before .before .before .before .choice-for .ensures) _ _ (c .before .before .before .before .before .before .before .before .before .before .before .before .before .before .before .before .before .before .before .before .before .before .before .before .number .given .1) _ (c .before .before .before .before .before .before .before .before .before .before .before .before .before .before .before .before .before .before .before .before .before .before .before .before .before .before .before .before .before .before .before .before .before .before .span .ensures) _ _ _ _ _ _ _ (c .before .before .before .before .before .before .before .before .before .before .before .before .before .before .before .settle .ensures) (c .done-by .ensures)
 
 pub spawn-at-spec : {M : Type 1} → statement M
 spawn-at-spec =
     tie.close
-    (tie.spec (λ c κs. search needs) (λ c κs. search needs) (λ c κs. search needs) (λ c. search needs) (λ c. search needs) (λ c. search needs) (λ c. search needs) (λ c. search needs) (λ c. search needs) (λ c. search needs) (λ c. search needs) returns (λ c. search needs) (λ c κs. search needs) (λ c. search needs) (λ c. search needs) (λ c. search needs) (λ c. search needs) (λ c. search needs) (λ c. search needs) (λ c. search needs) (λ c. search needs) (λ c. search needs) returns-2 choose-requires (λ c. search needs) (λ c. search needs) (λ c κs. search needs) (λ c κs. search needs) (λ c. search needs) (λ c. search needs) (λ c. search needs) (λ c. search needs) (λ c. search needs) (λ c. search needs) (λ c. search needs) returns-3 (λ c. search needs) (λ c. search needs) (λ c. search needs) (λ c. search needs) (λ c. search needs) (λ c. search needs) (λ c. search needs) returns-4)
+    (tie.spec (λ c κs. search needs) choice-for-requires (λ c. search needs) (λ c. search needs) (λ c κs. search needs) (λ c κs. search needs) (λ c. refl) (λ c. refl) (λ c. refl) (λ c. refl) (λ c. refl) (λ c. refl) (λ c. refl) returns same-length-8 same-length-9 same-length-10 same-length-11 same-length-12 same-length-13 same-length-14 returns-2)
