@@ -22,7 +22,7 @@ use Rattle.cells.specs.Cell.{cell, put, copies, copied, written}
 use Rattle.cells.specs.Cell.{partOf as cellPart}
 use Rattle.cells.specs.Line.{pastOf, cellAt, carried, transferred}
 use Rattle.row_step.specs.Tables.{tablesOf, appended, removed}
-use Rattle.column_entry.specs.Entry.{tableRules, isOver, countRules}
+use Rattle.column_entry.specs.Entry.{lengthsFor, tableRules, isOver, countRules}
 use Rattle.column_entry.specs.Entry.{lengthRules as rowLengthRules}
 use Rattle.store_steps.specs.Seats.{seatedRows}
 use Rattle.store_tables.specs.Store.{Store, storeOf, lentRules, entry}
@@ -64,19 +64,19 @@ no-rows (suc zero) = refl
 no-rows (suc (suc a)) = refl
 
 fresh-is-sound : Sound fresh
-unfolding entry _orElse_ capacityRules lengthRules headRules tableRules rowLengthRules declRules shapeRules columnRules twoSizes lentRules countRules isOver firstRow firstColumn typesOf sizesOf sum firstOf partOf anyAbove rising same anyBelow anyPair rowWidth baseOf
+unfolding entry _orElse_ capacityRules lengthRules headRules tableRules rowLengthRules lengthsFor declRules shapeRules columnRules twoSizes lentRules countRules isOver firstRow firstColumn typesOf sizesOf sum firstOf partOf anyAbove rising same anyBelow anyPair rowWidth baseOf
 fresh-is-sound = fresh-sound refl refl no-rows
 
 one-sound : Sound one-live
-unfolding spawning spawnRules runWrong anyHeld flushed damagedIn seatedRows appended transferred pastOf cellAt cell put copies copied written entry _orElse_ capacityRules lengthRules headRules tableRules rowLengthRules declRules shapeRules columnRules twoSizes lentRules countRules isOver firstRow firstColumn typesOf sizesOf sum firstOf partOf anyAbove rising same anyBelow anyPair rowWidth baseOf
+unfolding spawning spawnRules runWrong anyHeld flushed damagedIn seatedRows appended transferred pastOf cellAt cell put copies copied written entry _orElse_ capacityRules lengthRules headRules tableRules rowLengthRules lengthsFor declRules shapeRules columnRules twoSizes lentRules countRules isOver firstRow firstColumn typesOf sizesOf sum firstOf partOf anyAbove rising same anyBelow anyPair rowWidth baseOf
 one-sound = spawn-kept fresh 0 [] {x = (bitsOf 1 0, one-live)} fresh-is-sound refl
 
 two-sound : Sound two-live
-unfolding spawning spawnRules runWrong anyHeld flushed damagedIn seatedRows appended transferred pastOf cellAt cell put copies copied written entry _orElse_ capacityRules lengthRules headRules tableRules rowLengthRules declRules shapeRules columnRules twoSizes lentRules countRules isOver firstRow firstColumn typesOf sizesOf sum firstOf partOf anyAbove rising same anyBelow anyPair rowWidth baseOf cellPart
+unfolding spawning spawnRules runWrong anyHeld flushed damagedIn seatedRows appended transferred pastOf cellAt cell put copies copied written entry _orElse_ capacityRules lengthRules headRules tableRules rowLengthRules lengthsFor declRules shapeRules columnRules twoSizes lentRules countRules isOver firstRow firstColumn typesOf sizesOf sum firstOf partOf anyAbove rising same anyBelow anyPair rowWidth baseOf cellPart
 two-sound = spawn-kept one-live 1 (5 ∷ 6 ∷ []) {x = (bitsOf 1 1, two-live)} one-sound refl
 
 reached-sound : Sound reached
-unfolding despawning despawned despawnRules onBits liveIn owns movedDamaged vacated removed carried anyHeld flushed cellAt cell put copies copied written cellPart pastOf entry _orElse_ capacityRules lengthRules headRules tableRules rowLengthRules declRules shapeRules columnRules twoSizes lentRules countRules isOver firstRow firstColumn typesOf sizesOf sum firstOf partOf anyAbove rising same anyBelow anyPair rowWidth baseOf
+unfolding despawning despawned despawnRules onBits liveIn owns movedDamaged vacated removed carried anyHeld flushed cellAt cell put copies copied written cellPart pastOf entry _orElse_ capacityRules lengthRules headRules tableRules rowLengthRules lengthsFor declRules shapeRules columnRules twoSizes lentRules countRules isOver firstRow firstColumn typesOf sizesOf sum firstOf partOf anyAbove rising same anyBelow anyPair rowWidth baseOf
 reached-sound = despawn-kept two-live (bitsOf 1 0) {x = (tt, reached)} two-sound refl
 
 -- all four numbers of the fresh tables

@@ -33,7 +33,7 @@ use Rattle.decl.specs.Places.{rowWidth, baseOf}
 use Rattle.cells.specs.Cell.{cell, put, copies, copied}
 use Rattle.cells.specs.Line.{carried}
 use Rattle.row_step.specs.Tables.{Rows, tablesOf, removed, movedBy}
-use Rattle.column_entry.specs.Entry.{tableRules, isOver, countRules, entryRules, rowRules}
+use Rattle.column_entry.specs.Entry.{lengthsFor, tableRules, isOver, countRules, entryRules, rowRules}
 use Rattle.column_entry.specs.Entry.{lengthRules as rowLengthRules}
 use Rattle.columns.specs.Calls.{heldRules, removedIn}
 
@@ -301,5 +301,5 @@ wanted =
     ∷ []
 
 pub examples : said ≡ wanted
-unfolding said wanted one-used two-used three-used one-free two-free one-again two-again last chosen pendings one-taken rows held waiting newHandle fromBits onBits sharedWord uniqueWord entry capacityRules lengthRules headRules flushed damagedIn anyDamagedIn liveIn anyIs isReservedOld reservedNew isContained containing placeGot getting upFrom reserving allocRules allocating positionOf chosenRules allocAt allocatingAt freed freeing setEach oldHandles newHandles entitiesReserved reservingMany reservedPlaced flushing manyAlloced allocatingMany firstRow firstColumn typesOf sizesOf sum firstOf partOf anyAbove rising same anyBelow anyPair shapeRules twoSizes columnRules declRules rowWidth baseOf cell put copies copied carried removed movedBy tableRules isOver countRules entryRules rowRules rowLengthRules heldRules removedIn _orElse_
+unfolding said wanted one-used two-used three-used one-free two-free one-again two-again last chosen pendings one-taken rows held waiting newHandle fromBits onBits sharedWord uniqueWord entry capacityRules lengthRules headRules flushed damagedIn anyDamagedIn liveIn anyIs isReservedOld reservedNew isContained containing placeGot getting upFrom reserving allocRules allocating positionOf chosenRules allocAt allocatingAt freed freeing setEach oldHandles newHandles entitiesReserved reservingMany reservedPlaced flushing manyAlloced allocatingMany firstRow firstColumn typesOf sizesOf sum firstOf partOf anyAbove rising same anyBelow anyPair shapeRules twoSizes columnRules declRules rowWidth baseOf cell put copies copied carried removed movedBy tableRules isOver countRules entryRules rowRules rowLengthRules lengthsFor heldRules removedIn _orElse_
 examples = refl
