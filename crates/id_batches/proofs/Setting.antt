@@ -4,12 +4,13 @@ use Prim.Native.Nat.{ℕ, zero, suc, _+_, _-_, _<_, _≤_}
 use mathlib.Core.Path.{_≡_, refl, sym, ap, _∙_}
 use mathlib.Core.List.{List, [], _∷_, _++_, map}
 use native.Mathlib.Omega.{arith}
-use native.Mathlib.Nat.{not-suc-le-zero, le-of-suc-le-suc, zero-add, add-zero, suc-add, sub-zero, zero-sub, suc-sub-suc}
+use native.Mathlib.Nat.{not-suc-le-zero, le-of-suc-le-suc, zero-add, add-zero, suc-add}
 use native.Mathlib.Numerals.{add-one}
-use lib.ListN.{length, getD, take, drop, set, replicate, length-append, length-set, length-replicate, getD-replicate, length-map, replicate-append-replicate, drop-of-length-le}
-use lib.Seq.{drop-cons, slice, length-slice, take-nil, sets, sets-eq}
+use lib.ListN.{length, getD, drop, set, replicate, length-append, length-set, length-replicate, getD-replicate, length-map, replicate-append-replicate, drop-of-length-le}
+use lib.Seq.{drop-cons, sets, sets-eq}
 use Rattle.handle.specs.Bits.{bitsOf}
 use Rattle.id_tables.specs.Runs.{upFrom, up-from-none, up-from-cons, length-up-from, up-from-at}
+use Rattle.id_tables.proofs.Filling.{run-ends}
 use Rattle.id_batches.specs.Seating.{setEach, setAll, setRows}
 use Rattle.id_batches.specs.Reserve.{oldHandles, newHandles}
 
@@ -103,24 +104,34 @@ module _ (l ms ns : List ℕ) (v : ℕ) where
       rw (length-append ms ns, up-from-append v (length ms) (length ns))
       (set-two l ms ns (upFrom v (length ms)) (upFrom (v + length ms) (length ns)) (sym (length-up-from v (length ms))))
 
--- a lent part of a slice
-abbrev pub part : ℕ → ℕ → List ℕ → List ℕ
-part from to l = take (to - from) (drop from l)
-
-pub part-is : (from to : ℕ) (l : List ℕ) → part from to l ≡ slice from to l
-part-is zero to l = rw (sub-zero to)
-part-is (suc from) zero l = rw (zero-sub (suc from))
-part-is (suc from) (suc to) [] = rw (take-nil (suc to - suc from))
-part-is (suc from) (suc to) (x ∷ l) = rw (suc-sub-suc to from) (part-is from to l)
-
-part-long : (from to : ℕ) (l : List ℕ) → to ≤ length l → length (part from to l) ≡ to - from
-part-long from to l h = rw (part-is from to l) (length-slice from to l h)
-
 -- a run of places from a on
 run-sets : (l vs : List ℕ) (a : ℕ) → setEach l (upFrom a (length vs)) vs ≡ sets l a vs
 unfolding setEach
 run-sets l [] a = rw (up-from-none a)
 run-sets l (v ∷ vs) a = rw (up-from-cons a (length vs), add-one a) (run-sets (set l a v) vs (suc a))
+
+-- where the run is as long as this, one value in all of it, or successive rows
+module _ (l : List ℕ) (a k v : ℕ) where
+  same-long : (a + k) - a ≡ k
+  same-long = omega arith
+
+  pub run-same : sets l a (replicate ((a + k) - a) v) ≡ setAll l (upFrom a k) v
+  run-same =
+      rw (same-long, length-up-from a k)
+      (sym (rw (length-replicate k v) at (run-sets l (replicate k v) a)))
+
+  pub run-rows : sets l a (upFrom v ((a + k) - a)) ≡ setRows l (upFrom a k) v
+  run-rows =
+      rw (same-long, length-up-from a k)
+      (sym (rw (length-up-from v k) at (run-sets l (upFrom v k) a)))
+
+-- successive values in the entries i to an end that the table has: one turn of the loop, and its end
+module _ (l : List ℕ) (i to v : ℕ) where
+  pub number-one : i < to → sets l i (upFrom v (to - i)) ≡ sets (set l i v) (i + 1) (upFrom (v + 1) (to - (i + 1)))
+  number-one h = let e : to - i ≡ suc (to - (i + 1)) = omega arith in rw (e, up-from-cons v (to - (i + 1)), add-one i)
+
+  pub number-none : to - (to - length l) ≤ i → sets l i (upFrom v (to - i)) ≡ l
+  number-none h = run-ends l i to (upFrom v (to - i)) (length-up-from v (to - i)) h
 
 pub front-set : (l vs : List ℕ) → length vs ≤ length l → setEach l (upFrom 0 (length vs)) vs ≡ vs ++ drop (length vs) l
 front-set l vs h = run-sets l vs 0 ∙ sets-eq vs l 0 (omega arith) ∙ rw (zero-add (length vs))

@@ -8,7 +8,7 @@ use mathlib.Core.Bool.{true, false}
 use mathlib.Core.List.{List}
 use mathlib.Core.Option.{none, some}
 use lib.Dec.{ltb}
-use lib.ListN.{length, getD}
+use lib.ListN.{length, getD, replicate}
 use lib.Seq.{slice, length-slice}
 use native.Mathlib.Omega.{arith}
 use borrow.Author.Tests.{ltb-false, lt-ltb, le-ltb, le-leb, lt-leb}
@@ -19,17 +19,19 @@ use Rattle.id_tables.specs.declared.head.Head.{Head}
 use Rattle.id_tables.specs.Head.{freeOf, newOf, flushed, flushedHead, fallenFit}
 use Rattle.id_tables.specs.Ids.{Ids, idsOf, entry, room, anyDamaged, EntryOk}
 use Rattle.id_tables.specs.Lookup.{reservedOld}
-use Rattle.id_tables.specs.Runs.{upFrom, length-up-from}
+use Rattle.id_tables.specs.Runs.{upFrom, length-up-from, anyPast}
 use Rattle.id_tables.proofs.Entering.{entry-ok, entry-long}
 use Rattle.id_tables.proofs.Meaning.{flushed-free, flushed-new}
 use Rattle.id_tables.proofs.Falling.{falls-in}
+use Rattle.id_tables.proofs.Damage.{none-past}
+use Rattle.id_tables.proofs.Parts.{part, part-is}
 use Rattle.id_batches.specs.declared.many.AllocManyState.{AllocManyState}
 use Rattle.id_batches.specs.Seating.{setEach, setAll, setRows}
 use Rattle.id_batches.specs.Reserve.{oldHandles, newHandles, entitiesReserved}
 use Rattle.id_batches.specs.Freelist.{freeListed}
 use Rattle.id_batches.specs.AllocMany.{lastPending, newNumbers, stateOf, manyState, allocedIds, manyAlloced, walking}
 use Rattle.id_batches.specs.Flush.{reservedFresh, reservedCount, reservedPlaced}
-use Rattle.id_batches.proofs.Setting.{part, part-is, all-two, rows-two, old-front, both-front}
+use Rattle.id_batches.proofs.Setting.{set-long, all-two, rows-two, old-front, both-front}
 
 -- what passing the first tests gives, with an output of a places where b are asked for
 pub entered : (s : Ids) (a b : ℕ) → granted tt ≡ passing (entry s (ltb a b)) → EntryOk s × (b ≤ a)
@@ -60,7 +62,26 @@ module _ (s : Ids) (archetype first free fresh : ℕ) (f : free ≡ freeOf (s .h
         (grant (simp (le-ltb MAX (first + reservedCount s) within, rw (part-is free (s .head .pending) (s .pending), f) at d)
         (rw (all-two (s .archetypes) (reservedFresh s) (reservedOld s) archetype, rows-two (s .indices) (reservedFresh s) (reservedOld s) first, length-up-from (s .head .used) (newOf (s .head .cursor))))))
 
+-- numbers none of which is damaged are in the tables, also once new ones have been placed there
+pub flush-below : (s : Ids) (ns : List ℕ) (fresh archetype first : ℕ) (g a x : List ℕ) → EntryOk s → anyDamaged s ns ≡ false
+    → (g ≡ setAll (s .generations) (upFrom (s .head .used) fresh) 1) × (a ≡ setAll (s .archetypes) (upFrom (s .head .used) fresh) archetype) × (x ≡ setRows (s .indices) (upFrom (s .head .used) fresh) first)
+    → (anyPast (length a) ns ≡ false) × (anyPast (length x) ns ≡ false)
+flush-below s ns fresh archetype first g a x ok d new =
+    let b = set-long (s .archetypes) (upFrom (s .head .used) fresh) (replicate (length (upFrom (s .head .used) fresh)) archetype) in
+    let c = set-long (s .indices) (upFrom (s .head .used) fresh) (upFrom first (length (upFrom (s .head .used) fresh))) in
+    (rw (new .1, b) (none-past _ _ _ ns d (length (s .archetypes)) (omega arith)), rw (new .2, c) (none-past _ _ _ ns d (length (s .indices)) (omega arith)))
+
 -- alloc many
+module _ (s : Ids) (n left : ℕ) (l : left ≡ s .head .pending - n) where
+  pub many-whole : anyDamaged s (part left (s .head .pending) (s .pending)) ≡ false → anyDamaged s (lastPending s n) ≡ false
+  many-whole d = rw (part-is left (s .head .pending) (s .pending), l) at d
+
+  pub many-below : EntryOk s → anyDamaged s (lastPending s n) ≡ false
+      → (anyPast (length (s .archetypes)) (part left (s .head .pending) (s .pending)) ≡ false) × (anyPast (length (s .indices)) (part left (s .head .pending) (s .pending)) ≡ false)
+  many-below ok d =
+      rw (part-is left (s .head .pending) (s .pending), l)
+      (none-past _ _ _ (lastPending s n) d (length (s .archetypes)) (omega arith), none-past _ _ _ (lastPending s n) d (length (s .indices)) (omega arith))
+
 module _ (s : Ids) (n archetype first : ℕ) where
   pub many-unflushed : flushed (s .head) ≡ false → manyAlloced s n archetype first ≡ refused 3
   unfolding manyAlloced _orElse_

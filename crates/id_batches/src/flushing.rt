@@ -1,11 +1,11 @@
 // Flush: every reserved number gets a row.
-use crate::loops::any_damaged;
 use crate::loops::place_new;
 use crate::loops::place_old;
 use handle::MAX;
 use handle::Row;
 use id_tables::Done;
 use id_tables::Head;
+use id_tables::any_damaged;
 use id_tables::tested;
 use refusal::Refusal;
 use refusal::Tested;
@@ -35,7 +35,7 @@ fn reserved_placed(
     if ((MAX - first.0) as usize) < reserved {
         return Done::Refused(Refusal::BadPlace);
     }
-    if any_damaged(used, generations, indices, &pending[free..count]) {
+    if any_damaged(used as u32, generations, indices, &pending[free..count]) {
         return Done::Refused(Refusal::Damaged);
     }
     let new = fresh as u32;

@@ -1,8 +1,8 @@
 // The free list: the handles of the pending entries that are free.
-use crate::loops::any_damaged;
 use crate::loops::list_old;
 use id_tables::Counted;
 use id_tables::Head;
+use id_tables::any_damaged;
 use id_tables::tested;
 use refusal::Refusal;
 use refusal::Tested;
@@ -28,7 +28,7 @@ fn free_listed(
     ensures { λ r. ⌜ Did (freeListed (idsOf head (now (generations .entry)) (now (archetypes .entry)) (now (indices .entry)) (now (pending .entry))) (now (out .entry))) (now (out .entry)) (countedOf r) (now (out .exit)) ⌝ }
 {
     let free = head.free();
-    if any_damaged(head.used, generations, indices, &pending[0..free]) {
+    if any_damaged(head.used as u32, generations, indices, &pending[0..free]) {
         return Counted::Refused(Refusal::Damaged);
     }
     list_old(generations, &pending[0..free], out);

@@ -1,39 +1,18 @@
-// The loops that the calls share: a scan for damage, numbers placed at successive rows, handles written to an output.
+// The loops that the calls share: numbers placed at successive rows, handles written to an output.
 use handle::Number;
-use handle::Place;
 use handle::Row;
 use handle::bits_of;
-use id_tables::at;
-use id_tables::is_damaged;
-use id_tables::put;
-use id_tables::put_place;
+use id_tables::fill;
+use id_tables::least;
 ghost use mathlib.Core.Path.{_≡_};
+ghost use mathlib.Core.Bool.{false};
 ghost use Prim.Native.Nat.{_+_, _-_, _≤_};
 ghost use lib.ListN.{length};
+ghost use lib.Seq.{sets};
 ghost use Rattle.handle.specs.Bits.{MAX};
-ghost use Rattle.id_tables.specs.Ids.{anyDamagedIn};
-ghost use Rattle.id_tables.specs.Runs.{upFrom};
+ghost use Rattle.id_tables.specs.Runs.{upFrom, anyPast};
 ghost use Rattle.id_batches.specs.Seating.{setEach, setAll, setRows};
 ghost use Rattle.id_batches.specs.Reserve.{oldHandles, newHandles};
-
-// One of these pending numbers is damaged.
-pub(crate) fn any_damaged(
-    used: usize,
-    generations: &[u32],
-    indices: &[u32],
-    numbers: &[u32],
-) -> bool
-    ensures { λ r. ⌜ r ≡ anyDamagedIn used (now (generations .entry)) (now (indices .entry)) (now (numbers .entry)) ⌝ }
-{
-    let mut i = 0;
-    while i < numbers.len() {
-        if is_damaged(used, generations, indices, numbers[i] as usize) {
-            return true;
-        }
-        i += 1;
-    }
-    false
-}
 
 // Recycled numbers get successive rows.
 pub(crate) fn place_old(
@@ -44,20 +23,34 @@ pub(crate) fn place_old(
     first: Row,
 )
     requires { ⌜ first .0 + length (now numbers) ≤ MAX ⌝ }
+    requires { ⌜ (anyPast (length (now archetypes)) (now numbers) ≡ false) × (anyPast (length (now indices)) (now numbers) ≡ false) ⌝ }
     ensures { λ _. ⌜ (now (archetypes .exit) ≡ setAll (now (archetypes .entry)) (now (numbers .entry)) archetype) × (now (indices .exit) ≡ setRows (now (indices .entry)) (now (numbers .entry)) (first .0)) ⌝ }
 {
     let mut i = 0;
     while i < numbers.len() {
-        let place = Place {
-            archetype: archetype,
-            index: Row(first.0 + i as u32),
-        };
-        put_place(archetypes, indices, Number(numbers[i]), place);
+        let n = numbers[i] as usize;
+        archetypes[n] = archetype;
+        indices[n] = first.0 + i as u32;
         i += 1;
     }
 }
 
-// New numbers get successive rows, and generation 1.
+// Successive values from a first one in the entries from..to that the table has.
+fn number(table: &mut [u32], from: usize, to: usize, first: u32)
+    requires { ⌜ first + (to - from) ≤ MAX ⌝ }
+    ensures { λ _. ⌜ now (table .exit) ≡ sets (now (table .entry)) from (upFrom first (to - from)) ⌝ }
+{
+    let end = least(to, table.len());
+    let mut i = from;
+    let mut value = first;
+    while i < end {
+        table[i] = value;
+        value += 1;
+        i += 1;
+    }
+}
+
+// New numbers get successive rows, and generation 1: table by table, so that each is a run of stores.
 pub(crate) fn place_new(
     generations: &mut [u32],
     archetypes: &mut [u32],
@@ -70,28 +63,22 @@ pub(crate) fn place_new(
     requires { ⌜ (from + count ≤ MAX) × (first .0 + count ≤ MAX) ⌝ }
     ensures { λ _. ⌜ (now (generations .exit) ≡ setAll (now (generations .entry)) (upFrom from count) 1) × (now (archetypes .exit) ≡ setAll (now (archetypes .entry)) (upFrom from count) archetype) × (now (indices .exit) ≡ setRows (now (indices .entry)) (upFrom from count) (first .0)) ⌝ }
 {
-    let mut i = 0;
-    while i < count {
-        let number = from + i;
-        let place = Place {
-            archetype: archetype,
-            index: Row(first.0 + i),
-        };
-        put(generations, number as usize, 1);
-        put_place(archetypes, indices, Number(number), place);
-        i += 1;
-    }
+    let start = from as usize;
+    let end = start + count as usize;
+    fill(generations, start, end, 1);
+    fill(archetypes, start, end, archetype);
+    number(indices, start, end, first.0);
 }
 
 // Writes the handles of recycled numbers, from the output's front on.
 pub(crate) fn list_old(generations: &[u32], numbers: &[u32], out: &mut [u64])
-    requires { ⌜ length (now numbers) ≤ length (now out) ⌝ }
+    requires { ⌜ (length (now numbers) ≤ length (now out)) × (anyPast (length (now generations)) (now numbers) ≡ false) ⌝ }
     ensures { λ _. ⌜ now (out .exit) ≡ setEach (now (out .entry)) (upFrom 0 (length (now (numbers .entry)))) (oldHandles (now (generations .entry)) (now (numbers .entry))) ⌝ }
 {
     let mut i = 0;
     while i < numbers.len() {
         let number = numbers[i];
-        out[i] = bits_of(at(generations, number as usize), Number(number));
+        out[i] = bits_of(generations[number as usize], Number(number));
         i += 1;
     }
 }
@@ -106,14 +93,4 @@ pub(crate) fn list_new(from: u32, count: u32, position: usize, out: &mut [u64])
         out[position + i as usize] = bits_of(1, Number(from + i));
         i += 1;
     }
-}
-
-// a - b, and 0 where b is more.
-pub(crate) fn minus(a: usize, b: usize) -> usize
-    ensures { λ r. ⌜ r ≡ a - b ⌝ }
-{
-    if a < b {
-        return 0;
-    }
-    a - b
 }

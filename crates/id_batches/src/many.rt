@@ -1,22 +1,23 @@
 // Allocate n numbers at once, and the state that walks them.
-use crate::loops::any_damaged;
-use crate::loops::minus;
 use crate::loops::place_new;
 use crate::loops::place_old;
 use handle::MAX;
 use handle::Number;
 use handle::Row;
 use id_tables::Head;
+use id_tables::any_damaged;
+use id_tables::minus;
 use id_tables::tested;
 use refusal::Refusal;
 use refusal::Tested;
 ghost use mathlib.Core.Path.{_≡_};
+ghost use mathlib.Core.Bool.{false};
 ghost use Prim.Native.Nat.{_+_, _-_, _≤_};
 ghost use lib.ListN.{length};
 ghost use Rattle.refusal.specs.Table.{Did, granted};
 ghost use Rattle.handle.specs.Bits.{MAX};
-ghost use Rattle.id_tables.specs.Ids.{idsOf, EntryOk};
-ghost use Rattle.id_batches.specs.AllocMany.{manyState, allocedIds, manyAlloced, allocatingMany, allocedOf, headAfterMany, walking, walkedOf, stateAfter, leftIn};
+ghost use Rattle.id_tables.specs.Ids.{idsOf, EntryOk, anyDamaged};
+ghost use Rattle.id_batches.specs.AllocMany.{lastPending, manyState, allocedIds, manyAlloced, allocatingMany, allocedOf, headAfterMany, walking, walkedOf, stateAfter, leftIn};
 
 // The numbers of an `alloc_many` that are still to be walked: those at `position` to `top` of the pending table, then the new ones from `number` to `end`.
 pub struct AllocManyState {
@@ -108,7 +109,7 @@ fn many_alloced(
         return AllocedMany::Refused(Refusal::NoRoom);
     }
     let left = minus(count, n);
-    if any_damaged(used, generations, indices, &pending[left..count]) {
+    if any_damaged(used as u32, generations, indices, &pending[left..count]) {
         return AllocedMany::Refused(Refusal::Damaged);
     }
     many_placed(
@@ -135,7 +136,7 @@ fn many_placed(
     first: Row,
 ) -> AllocedMany
     requires { ⌜ EntryOk (idsOf head (now generations) (now archetypes) (now indices) (now pending)) ⌝ }
-    requires { ⌜ (first .0 + n ≤ MAX) × (n ≤ head .pending + (length (now generations) - head .used)) ⌝ }
+    requires { ⌜ (first .0 + n ≤ MAX) × (n ≤ head .pending + (length (now generations) - head .used)) × (anyDamaged (idsOf head (now generations) (now archetypes) (now indices) (now pending)) (lastPending (idsOf head (now generations) (now archetypes) (now indices) (now pending)) n) ≡ false) ⌝ }
     ensures { λ r. ⌜ (allocedOf r ≡ granted (manyState (idsOf head (now (generations .entry)) (now (archetypes .entry)) (now (indices .entry)) (now (pending .entry))) n)) × (idsOf (headAfterMany head r) (now (generations .exit)) (now (archetypes .exit)) (now (indices .exit)) (now (pending .entry)) ≡ allocedIds (idsOf head (now (generations .entry)) (now (archetypes .entry)) (now (indices .entry)) (now (pending .entry))) n archetype (first .0)) ⌝ }
 {
     let used = head.used;

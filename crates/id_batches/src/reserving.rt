@@ -1,10 +1,10 @@
 // Reserve n numbers at once.
-use crate::loops::any_damaged;
 use crate::loops::list_new;
 use crate::loops::list_old;
-use crate::loops::minus;
 use id_tables::Done;
 use id_tables::Head;
+use id_tables::any_damaged;
+use id_tables::minus;
 use id_tables::tested;
 use refusal::Refusal;
 use refusal::Tested;
@@ -35,7 +35,7 @@ fn entities_reserved(
         return Done::Refused(Refusal::NoRoom);
     }
     let from = minus(free, n);
-    if any_damaged(head.used, generations, indices, &pending[from..free]) {
+    if any_damaged(head.used as u32, generations, indices, &pending[from..free]) {
         return Done::Refused(Refusal::Damaged);
     }
     list_old(generations, &pending[from..free], out);

@@ -4,15 +4,16 @@ use handle::Handle;
 use handle::Number;
 use id_tables::Done;
 use id_tables::Head;
-use id_tables::is_damaged;
+use id_tables::any_damaged;
+use id_tables::least;
+use id_tables::minus;
 use id_tables::tested;
 use refusal::Refusal;
 use refusal::Tested;
 ghost use mathlib.Core.Path.{_≡_};
-ghost use Prim.Native.Nat.{_-_};
 ghost use lib.Seq.{slice};
 ghost use Rattle.refusal.specs.Table.{Did};
-ghost use Rattle.id_tables.specs.Ids.{idsOf, EntryOk, anyDamagedIn};
+ghost use Rattle.id_tables.specs.Ids.{idsOf, EntryOk};
 ghost use Rattle.id_readers.specs.Reader.{readerAt, partReserved, reservingPart, refusedSpan, SpanReserved, stepping, nextOf, stepOf, leftIn};
 
 // The numbers of a reservation: those at `from` to `to` of the pending list, then the new ones from `number` to `end`. All are 0 on a refusal.
@@ -36,40 +37,6 @@ pub struct EntityStep {
     pub next: NextEntity,
     pub position: usize,
     pub number: u32,
-}
-
-// One of these pending numbers is damaged.
-fn any_damaged(used: usize, generations: &[u32], indices: &[u32], numbers: &[u32]) -> bool
-    ensures { λ r. ⌜ r ≡ anyDamagedIn used (now (generations .entry)) (now (indices .entry)) (now (numbers .entry)) ⌝ }
-{
-    let mut i = 0;
-    while i < numbers.len() {
-        if is_damaged(used, generations, indices, numbers[i] as usize) {
-            return true;
-        }
-        i += 1;
-    }
-    false
-}
-
-// a - b, and 0 where b is more.
-fn minus(a: usize, b: usize) -> usize
-    ensures { λ r. ⌜ r ≡ a - b ⌝ }
-{
-    if a < b {
-        return 0;
-    }
-    a - b
-}
-
-// The lesser of the two.
-fn least(a: usize, b: usize) -> usize
-    ensures { λ r. ⌜ r ≡ a - (a - b) ⌝ }
-{
-    if a < b {
-        return a;
-    }
-    b
 }
 
 // A refusal has the empty span.
@@ -103,7 +70,7 @@ fn span_reserved(
         return no_span(Refusal::NoRoom);
     }
     let from = minus(free, n);
-    if any_damaged(head.used, generations, indices, &pending[from..free]) {
+    if any_damaged(head.used as u32, generations, indices, &pending[from..free]) {
         return no_span(Refusal::Damaged);
     }
     let end = next + minus(n, free);

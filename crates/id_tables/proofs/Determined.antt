@@ -1,10 +1,11 @@
 -- The contracts determine the result and what is left of everything lent: no second result fits. One instance a function, under its name.
 -- Assumes nothing.
-use Prim.Native.Nat.{ℕ}
+use Prim.Native.Nat.{ℕ, _-_}
 use mathlib.Core.Bool.{Bool}
 use mathlib.Core.Path.{_≡_, sym, ap, _∙_}
 use mathlib.Core.List.{List}
-use lib.ListN.{getD, set}
+use lib.ListN.{getD, set, replicate}
+use lib.Seq.{sets}
 use Rattle.refusal.specs.Table.{testOf, passing, Did}
 use Rattle.refusal.specs.Laws.{determined, sole-answer, sole}
 use Rattle.refusal.specs.Distinct.{number-inj, tested-tells}
@@ -25,7 +26,7 @@ use Rattle.id_tables.specs.declared.lookup.Counted.the-variants as count
 use Rattle.id_tables.specs.declared.lookup.Done.{Done}
 use Rattle.id_tables.specs.declared.lookup.Done.the-variants as done
 use Rattle.id_tables.specs.Head as rule
-use Rattle.id_tables.specs.Ids.{Ids, idsOf, capacityRules, lengthRules, entry, damagedIn, liveIn}
+use Rattle.id_tables.specs.Ids.{Ids, idsOf, capacityRules, lengthRules, entry, damagedIn, anyDamagedIn, liveIn}
 use Rattle.id_tables.specs.Lookup.{containing, placeGot, getting, settingPlace, resolving, counting, clearing, containedOf, foundOf, resolvedOf, countedOf, doneOf, headAfter}
 
 -- an answer of the document is that of one result
@@ -116,6 +117,18 @@ module _ (used : ℕ) (generations indices : List ℕ) where
 
   pub is-live : (generation number : ℕ) → Sole (liveIn used generations indices generation number)
   is-live generation number = one (liveIn used generations indices generation number)
+
+  pub any-damaged : (numbers : List ℕ) → Sole (anyDamagedIn used generations indices numbers)
+  any-damaged numbers = one (anyDamagedIn used generations indices numbers)
+
+pub fill : (table : List ℕ) (from to value : ℕ) → Sole (sets table from (replicate (to - from) value))
+fill table from to value = one (sets table from (replicate (to - from) value))
+
+pub minus : (a b : ℕ) → Sole (a - b)
+minus a b = one (a - b)
+
+pub least : (a b : ℕ) → Sole (a - (a - b))
+least a b = one (a - (a - b))
 
 -- the calls that change nothing lent
 module _ (s : Ids) where

@@ -6,10 +6,8 @@ use mathlib.Core.Path.{_≡_, refl, sym, _∙_}
 use mathlib.Core.Bool.{Bool, true, false, cond, _&&_, or-false}
 use mathlib.Core.List.{List}
 use native.Mathlib.Omega.{arith}
-use native.Mathlib.Numerals.{add-one}
 use lib.Dec.{ltb, eqb}
-use lib.ListN.{length, take, getD, set, length-take, drop-of-length-le}
-use lib.Seq.{slice, slice-cons}
+use lib.ListN.{set}
 use borrow.Author.Tests.{ltb-true, ltb-false, eqb-true, lt-ltb, le-ltb, le-leb, lt-leb, eq-eqb, ne-eqb}
 use Rattle.refusal.specs.Table.{Answer, granted, refused, _orElse_, passing, Did}
 use Rattle.refusal.specs.Laws.{grant, go}
@@ -25,20 +23,6 @@ use Rattle.id_tables.specs.Head.{newOf}
 use Rattle.id_tables.specs.Ids.{Ids, idsOf, entry, live, liveIn, generationAt, indexAt}
 use Rattle.id_tables.specs.Lookup.{anyIs, reservedOld, isReservedOld, reservedNew, isContained, placeGot, placeSet, resolving}
 use Rattle.id_tables.proofs.Laws.{new-below}
-
--- a scan for a number: what is left of the part decides
-module _ (n : ℕ) (p : List ℕ) (i to : ℕ) where
-  pub any-here : i < to → to ≤ length p → getD p i 0 ≡ n → anyIs n (slice i to p) ≡ true
-  unfolding anyIs
-  any-here h k e = rw (slice-cons i to p 0 h k) (simp (eq-eqb _ _ e))
-
-  pub any-next : i < to → to ≤ length p → (getD p i 0 ≡ n → ⊥) → anyIs n (slice i to p) ≡ anyIs n (slice (i + 1) to p)
-  unfolding anyIs
-  any-next h k ne = rw (slice-cons i to p 0 h k, add-one i) (simp (ne-eqb _ _ ne))
-
-  pub any-none : to ≤ i → anyIs n (slice i to p) ≡ false
-  unfolding anyIs
-  any-none h = let k : length (take to p) ≤ i = rw length-take (omega arith) in rw (drop-of-length-le (take to p) k)
 
 -- how far a number lies past used, against the new numbers
 past-used : (u n k : ℕ) (b : Bool) → u ≤ n → ltb n (u + k) ≡ b → ltb (n - u) k ≡ b

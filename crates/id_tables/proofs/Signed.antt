@@ -1,14 +1,15 @@
 -- A signed 64-bit local holds bits: what a test of its sign says, as a number of two counts.
 -- Assumes nothing.
-use mathlib.Core.Path.{_≡_, refl, sym, ap, _∙_, subst}
+use mathlib.Core.Path.{_≡_, refl, subst}
 use mathlib.Core.Bool.{Bool, true, false}
-use Prim.Native.Nat.{ℕ, zero, suc, _+_, _-_, _^_, _<_, _≤_}
+use mathlib.Core.Logic.{_⊎_, inl, inr}
+use Prim.Native.Nat.{ℕ, suc, _+_, _-_, _%_, _^_, _<_, _≤_}
 use native.Mathlib.Omega.{arith}
 use native.Mathlib.Nat.{not-suc-le-zero}
 use borrow.Author.Tests.{ltb-true}
 use lib.Dec.{T}
-use lib.IntN.{ℤ, pos, negsuc, natAbs, negℤ, _-ℤ_}
-use lib.Signed.{ltZ, nonNeg, mag}
+use lib.IntN.{ℤ, pos, negsuc, natAbs, _-ℤ_}
+use lib.Signed.{ltZ, nonNeg}
 use mir.Syntax.{w64}
 use mir.Val.{Fits, SFits, toZ, ofZ}
 use mir.Facts.{toZ-ofZ, toZ-pos, fits-natAbs}
@@ -58,6 +59,14 @@ pub new-small : (x : ℤ) → SFits w64 x → newOf x ≤ 2 ^ 63
 new-small (pos n) f = omega arith
 new-small (negsuc n) f = omega (arith, f .sfits)
 
+free-small : (x : ℤ) → SFits w64 x → freeOf x < 2 ^ 63
+free-small (pos n) f = omega (arith, f .sfits)
+free-small (negsuc n) f = omega arith
+
+pub one-side : (x : ℤ) → (freeOf x ≡ 0) ⊎ (newOf x ≡ 0)
+one-side (pos n) = inr refl
+one-side (negsuc n) = inl refl
+
 module _ (x : ℤ) (f : SFits w64 x) where
   pub free-0 : Below x true → 0 ≡ freeOf x
   free-0 t = free-none x (negative x f t)
@@ -79,6 +88,16 @@ module _ (x : ℤ) (f : SFits w64 x) where
 
   pub new-fits : Below x true → Fits w64 (natAbs (toZ w64 ((2 ^ 64 - 1) - ofZ w64 x)) + 1)
   new-fits t = rw (flipped x f (negative x f t)) (record { fits = omega (arith, new-small x f) })
+
+  pub new-more : Below x true → 1 ≤ newOf x
+  new-more t = new-some x (negative x f t)
+
+  -- its bits are a number that the new count takes around to the free count
+  pub bits-below : Below x true → ((((2 ^ 64 - 1) - natAbs (toZ w64 ((2 ^ 64 - 1) - ofZ w64 x))) + newOf x) % 2 ^ 64 ≡ freeOf x) × (freeOf x < 2 ^ 63) × (newOf x ≤ 2 ^ 63)
+  bits-below t = (omega (arith, new-is t, free-0 t, new-small x f), free-small x f, new-small x f)
+
+  pub bits-above : Below x false → ((natAbs (toZ w64 (ofZ w64 x)) + newOf x) % 2 ^ 64 ≡ freeOf x) × (freeOf x < 2 ^ 63) × (newOf x ≤ 2 ^ 63)
+  bits-above t = (omega (arith, free-is t, new-0 t, free-small x f), free-small x f, new-small x f)
 
 -- the cursor less a number below 2 ^ 32, where that is not too deep
 module _ (x : ℤ) (f : SFits w64 x) (n : ℕ) (h : n < 2 ^ 32) (k : newOf x + n ≤ 2 ^ 63) where

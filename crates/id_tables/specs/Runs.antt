@@ -1,9 +1,11 @@
--- An ascending run of numbers.
+-- Runs of numbers: ascending ones, and those that have one past a limit.
 use Prim.Native.Nat.{ℕ, zero, suc, _+_, _<_}
 use mathlib.Core.Path.{_≡_, refl, ap, _∙_}
+use mathlib.Core.Bool.{Bool, false, _||_}
 use mathlib.Core.List.{List, [], _∷_}
 use native.Mathlib.Omega.{arith}
 use native.Mathlib.Nat.{not-suc-le-zero, le-of-suc-le-suc}
+use lib.Dec.{leb}
 use lib.ListN.{length, getD}
 
 -- k numbers from n up
@@ -29,3 +31,8 @@ unfolding upFrom
 up-from-at n zero i h = absurd (not-suc-le-zero h)
 up-from-at n (suc k) zero h = omega arith
 up-from-at n (suc k) (suc i) h = up-from-at (n + 1) k i (le-of-suc-le-suc h) ∙ omega arith
+
+-- one of these is n or more
+unfoldable pub anyPast : ℕ → List ℕ → Bool
+anyPast n [] = false
+anyPast n (m ∷ ms) = leb n m || anyPast n ms

@@ -45,10 +45,7 @@ pub fn head_tested(head: Head, capacity: usize) -> Tested
     if head.used < head.pending {
         return Tested::Refused(Refusal::Damaged);
     }
-    if head.pending < head.free() {
-        return Tested::Refused(Refusal::Damaged);
-    }
-    if capacity - head.used < head.fresh() {
+    if !head.cursor_fits(capacity) {
         return Tested::Refused(Refusal::Damaged);
     }
     if head.live != head.used - head.pending {

@@ -1,5 +1,9 @@
 // The head: the counts of the id tables, and the signed cursor, which only these functions look into.
+use std::num::wrapping_sub_usize;
 ghost use mathlib.Core.Path.{_≡_};
+ghost use mathlib.Core.Bool.{not, _||_};
+ghost use Prim.Native.Nat.{_+_, _-_, _%_, _^_, _<_, _≤_};
+ghost use lib.Dec.{ltb};
 ghost use Rattle.id_tables.specs.Head.{freeOf, newOf, flushed, flushedHead, fallenFit};
 
 // How far below 0 a cursor can be.
@@ -53,10 +57,39 @@ impl Head {
     pub fn is_flushed(self) -> bool
         ensures { λ r. ⌜ r ≡ flushed self ⌝ }
     {
-        if self.free() != self.pending {
+        let c = self.cursor;
+        if c < 0 {
             return false;
         }
-        self.fresh() == 0
+        self.free() == self.pending
+    }
+
+    // The head rule for the cursor: at most the pending count, and no deeper below 0 than there are unused numbers. In 64 bits one test of the pending count less the cursor says both.
+    pub(crate) fn cursor_fits(self, capacity: usize) -> bool
+        requires { ⌜ (self .used ≤ capacity) × (self .pending ≤ self .used) ⌝ }
+        ensures { λ r. ⌜ r ≡ not (ltb (self .pending) (freeOf (self .cursor)) || ltb (capacity - self .used) (newOf (self .cursor))) ⌝ }
+    {
+        let unused = capacity - self.used;
+        if DEPTH <= capacity {
+            if self.pending < self.free() {
+                return false;
+            }
+            return self.fresh() <= unused;
+        }
+        wrapping_sub_usize(self.pending, self.bits()) <= self.pending + unused
+    }
+
+    // The cursor in two's complement.
+    fn bits(self) -> usize
+        ensures { λ r. ⌜ ((r + newOf (self .cursor)) % 2 ^ 64 ≡ freeOf (self .cursor)) × (freeOf (self .cursor) < 2 ^ 63) × (newOf (self .cursor) ≤ 2 ^ 63) ⌝ }
+    {
+        let c = self.cursor;
+        if c < 0 {
+            let d = !c;
+            let e = d as usize;
+            return !e;
+        }
+        c as usize
     }
 
     // The head with its cursor fallen by n. A cursor that would leave its 64 bits stays.

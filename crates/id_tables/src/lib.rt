@@ -3,6 +3,7 @@ mod entry;
 mod head;
 mod lookup;
 mod place;
+mod runs;
 mod tables;
 mod whole;
 
@@ -20,6 +21,10 @@ pub use lookup::contains;
 pub use lookup::get;
 pub use lookup::got;
 pub use place::set_place;
+pub use runs::any_damaged;
+pub use runs::fill;
+pub use runs::least;
+pub use runs::minus;
 pub use tables::at;
 pub use tables::is_damaged;
 pub use tables::is_live;

@@ -1,6 +1,7 @@
 // What the calls that look or set answer, and two of them: contains and get.
 use crate::entry::tested;
 use crate::head::Head;
+use crate::runs::has;
 use crate::tables::at;
 use crate::tables::is_live;
 use handle::Bits;
@@ -11,12 +12,9 @@ use handle::Row;
 use refusal::Refusal;
 use refusal::Tested;
 ghost use mathlib.Core.Path.{_≡_};
-ghost use Prim.Native.Nat.{_≤_};
-ghost use lib.ListN.{length};
-ghost use lib.Seq.{slice};
 ghost use Rattle.handle.specs.Bits.{generationIn, numberIn};
 ghost use Rattle.id_tables.specs.Ids.{idsOf, EntryOk};
-ghost use Rattle.id_tables.specs.Lookup.{anyIs, reservedNew, isContained, containing, placeGot, getting, containedOf, foundOf};
+ghost use Rattle.id_tables.specs.Lookup.{reservedNew, isContained, containing, placeGot, getting, containedOf, foundOf};
 
 pub enum Contained {
     Is(bool),
@@ -57,22 +55,6 @@ fn is_reserved_new(head: Head, generation: u32, number: usize) -> bool
     number - head.used < head.fresh()
 }
 
-// pending[from..to] has the number.
-fn has(pending: &[u32], from: usize, to: usize, number: usize) -> bool
-    requires { ⌜ to ≤ length (now pending) ⌝ }
-    ensures { λ r. ⌜ r ≡ anyIs number (slice from to (now (pending .entry))) ⌝ }
-{
-    let mut i = from;
-    while i < to {
-        let here = pending[i] as usize;
-        if here == number {
-            return true;
-        }
-        i += 1;
-    }
-    false
-}
-
 fn is_contained(
     head: Head,
     generations: &[u32],
@@ -96,7 +78,9 @@ fn is_contained(
     if at(indices, number) != MAX {
         return true;
     }
-    has(pending, head.free(), head.pending, number)
+    let free = head.free();
+    let count = head.pending;
+    has(&pending[free..count], id.0)
 }
 
 pub fn contains(

@@ -25,7 +25,7 @@ use Rattle.id_tables.specs.Lookup.{reservedOld, doneOf, headAfter}
 use Rattle.id_tables.specs.Runs.{upFrom, length-up-from}
 use Rattle.id_batches.specs.Flush.{reservedCount, flushedIds}
 use Rattle.id_batches.specs.Flush as ids
-use Rattle.id_batches.proofs.Setting.{part, part-is}
+use Rattle.id_tables.proofs.Parts.{part, part-is}
 use Rattle.id_batches.proofs.Fitting.{flushing-fits}
 use Rattle.decl.specs.Decl.{archetypes, rowsOf}
 use Rattle.decl.specs.Kept.{Shaped}
