@@ -107,7 +107,7 @@ pub fn chosen(words: &mut [u64; 4], out: &mut [u64; 4], answer: Chosen) -> u32
             store(out, 0, 0, 0);
             0
         }
-        Chosen::Over(place, head) => {
+        Chosen::Over(head, place) => {
             put_head(words, head);
             store_old(out, place);
             0

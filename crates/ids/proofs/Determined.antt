@@ -38,13 +38,13 @@ freed-tells h (freed.Refused x) (freed.Refused y) e l = ap freed.Refused (number
 
 chosen-tells : (h : Head) (r s : Chosen) → chosenOf r ≡ chosenOf s → chosenHead h r ≡ chosenHead h s → r ≡ s
 chosen-tells h (chosen.Fresh x) (chosen.Fresh y) e l = ap chosen.Fresh l
-chosen-tells h (chosen.Fresh x) (chosen.Over b y) e l = cc
+chosen-tells h (chosen.Fresh x) (chosen.Over y b) e l = cc
 chosen-tells h (chosen.Fresh x) (chosen.Refused y) e l = cc
-chosen-tells h (chosen.Over a x) (chosen.Fresh y) e l = cc
-chosen-tells h (chosen.Over a x) (chosen.Over b y) e l = cc
-chosen-tells h (chosen.Over a x) (chosen.Refused y) e l = cc
+chosen-tells h (chosen.Over x a) (chosen.Fresh y) e l = cc
+chosen-tells h (chosen.Over x a) (chosen.Over y b) e l = cc
+chosen-tells h (chosen.Over x a) (chosen.Refused y) e l = cc
 chosen-tells h (chosen.Refused x) (chosen.Fresh y) e l = cc
-chosen-tells h (chosen.Refused x) (chosen.Over b y) e l = cc
+chosen-tells h (chosen.Refused x) (chosen.Over y b) e l = cc
 chosen-tells h (chosen.Refused x) (chosen.Refused y) e l = ap chosen.Refused (number-inj x y (cc))
 
 -- one result and one set of tables for what is lent

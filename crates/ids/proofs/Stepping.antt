@@ -1,4 +1,4 @@
--- One turn of each loop: a scan for a position, a fill, a run of numbers.
+-- One turn of each loop: a scan for a position, a run of numbers.
 -- Assumes nothing.
 use Prim.Native.Nat.{ℕ, suc, _+_, _-_, _<_, _≤_}
 use mathlib.Core.Path.{_≡_, sym}
@@ -8,7 +8,7 @@ use native.Mathlib.Omega.{arith}
 use native.Mathlib.Numerals.{add-one}
 use borrow.Author.Tests.{lt-ltb, eq-eqb, ne-eqb}
 use lib.Dec.{ltb}
-use lib.ListN.{length, getD, take, set, replicate, length-take, drop-of-length-le}
+use lib.ListN.{length, getD, take, set, length-take, drop-of-length-le}
 use lib.Seq.{sets, slice, slice-cons}
 use Rattle.id_tables.specs.Runs.{upFrom, up-from-none, up-from-cons}
 use Rattle.ids.specs.AllocAt.{positionOf}
@@ -33,14 +33,6 @@ pub short-list : (n : ℕ) (p : List ℕ) (count : ℕ) → length p < count →
 short-list n p count h =
     let k : length (take count p) ≤ length p = rw length-take (omega arith) in
     sym (lt-ltb (positionOf n (take count p)) count (omega (arith, position-in n (take count p))))
-
--- one value in the entries i..to
-module _ (l : List ℕ) (i to v : ℕ) where
-  pub fill-one : i < to → sets l i (replicate (to - i) v) ≡ sets (set l i v) (i + 1) (replicate (to - (i + 1)) v)
-  fill-one h = let e : to - i ≡ suc (to - (i + 1)) = omega arith in rw (e, add-one i)
-
-  pub fill-none : to ≤ i → sets l i (replicate (to - i) v) ≡ l
-  fill-none h = let e : to - i ≡ 0 = omega arith in rw e
 
 -- the numbers n..to from position p on
 module _ (l : List ℕ) (p n to : ℕ) where

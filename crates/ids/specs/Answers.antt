@@ -29,7 +29,7 @@ freedOf (freed.Refused r) = refused (numberOf r)
 -- the place that the chosen number had, or none where it was not live
 abbrev pub chosenOf : Chosen → Answer (Option Place)
 chosenOf (chosen.Fresh head) = granted none
-chosenOf (chosen.Over place head) = granted (some place)
+chosenOf (chosen.Over head place) = granted (some place)
 chosenOf (chosen.Refused r) = refused (numberOf r)
 
 -- the head that an answer hands back, or on a refusal the one that was lent
@@ -43,5 +43,5 @@ freedHead lent (freed.Refused r) = lent
 
 abbrev pub chosenHead : Head → Chosen → Head
 chosenHead lent (chosen.Fresh head) = head
-chosenHead lent (chosen.Over place head) = head
+chosenHead lent (chosen.Over head place) = head
 chosenHead lent (chosen.Refused r) = lent

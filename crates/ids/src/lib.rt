@@ -36,10 +36,10 @@ pub enum Freed {
     Refused(Refusal),
 }
 
-// The chosen number was not live, or it was, at this place.
+// The chosen number was not live, or it was, at this place. The head stands first in both, so that it has one place in the answer.
 pub enum Chosen {
     Fresh(Head),
-    Over(Place, Head),
+    Over(Head, Place),
     Refused(Refusal),
 }
 

@@ -1,10 +1,10 @@
-// Runs of table entries: found, filled, numbered.
+// Runs of table entries: found, numbered.
 use handle::Number;
 use id_tables::Head;
 ghost use mathlib.Core.Path.{_≡_};
 ghost use Prim.Native.Nat.{_+_, _-_, _^_, _<_, _≤_};
 ghost use lib.Dec.{ltb};
-ghost use lib.ListN.{length, take, replicate};
+ghost use lib.ListN.{length, take};
 ghost use lib.Seq.{sets};
 ghost use Rattle.id_tables.specs.Runs.{upFrom};
 ghost use Rattle.ids.specs.AllocAt.{positionOf};
@@ -33,18 +33,6 @@ pub fn is_pending(head: Head, pending: &[u32], number: Number) -> bool
         return true;
     }
     position_of(pending, count, number.0) < count
-}
-
-// One value for all the entries from..to.
-pub(crate) fn fill(table: &mut [u32], from: usize, to: usize, value: u32)
-    requires { ⌜ to ≤ length (now table) ⌝ }
-    ensures { λ _. ⌜ now (table .exit) ≡ sets (now (table .entry)) from (replicate (to - from) value) ⌝ }
-{
-    let mut i = from;
-    while i < to {
-        table[i] = value;
-        i += 1;
-    }
 }
 
 // The numbers from..to, ascending, after the first count entries.

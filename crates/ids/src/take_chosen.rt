@@ -1,6 +1,5 @@
 // Allocate a chosen number.
 use crate::Chosen;
-use crate::runs::fill;
 use crate::runs::position_of;
 use crate::runs::queue;
 use crate::settle;
@@ -11,6 +10,7 @@ use handle::Number;
 use handle::Place;
 use id_tables::Head;
 use id_tables::at;
+use id_tables::fill;
 use id_tables::is_damaged;
 use id_tables::place_at;
 use id_tables::put;
@@ -58,7 +58,6 @@ fn stretch(
     count: usize,
     n: usize,
 )
-    requires { ⌜ (n ≤ length (now generations)) × (n ≤ length (now archetypes)) × (n ≤ length (now indices)) ⌝ }
     requires { ⌜ (count + (n - used) ≤ length (now pending)) × (n < 2 ^ 32) ⌝ }
     ensures { λ _. ⌜ (now (generations .exit) ≡ sets (now (generations .entry)) used (replicate (n - used) 1)) × (now (archetypes .exit) ≡ sets (now (archetypes .entry)) used (replicate (n - used) 0)) × (now (indices .exit) ≡ sets (now (indices .entry)) used (replicate (n - used) MAX)) × (now (pending .exit) ≡ sets (now (pending .entry)) count (upFrom used (n - used))) ⌝ }
 {
@@ -136,7 +135,7 @@ fn take_over(
         return Chosen::Refused(Refusal::Damaged);
     }
     settle(generations, archetypes, indices, number, generation, place);
-    Chosen::Over(old, head)
+    Chosen::Over(head, old)
 }
 
 fn alloced_at(

@@ -105,12 +105,12 @@ module _ (k : Block) (sizes : List ℕ) (t : Seats) (a : ℕ) (run : List ℕ) w
 -- what the id layer's answer says, and the head that it hands back
 said-done : (said : Chosen) {o : Option Place} → chosenOf said ≡ granted o → doneOf (doneBy said) ≡ granted tt
 said-done (chosen.Fresh head) q = refl
-said-done (chosen.Over place head) q = refl
+said-done (chosen.Over head place) q = refl
 said-done (chosen.Refused r) q = cc
 
 said-head : (head : Head) (said : Chosen) → headAfter head (doneBy said) ≡ chosenHead head said
 said-head head (chosen.Fresh left) = refl
-said-head head (chosen.Over place left) = refl
+said-head head (chosen.Over left place) = refl
 said-head head (chosen.Refused r) = refl
 
 -- the number takes the row, where the id layer grants it that

@@ -100,5 +100,5 @@ pub record Settles (k : Block) (sizes : List ℕ) (t : Seats) (head : Head) (gen
 -- the head of the id layer's answer, which is all that is answered
 abbrev pub doneBy : Chosen → Done
 doneBy (chosen.Fresh head) = done.Granted head
-doneBy (chosen.Over place head) = done.Granted head
+doneBy (chosen.Over head place) = done.Granted head
 doneBy (chosen.Refused r) = done.Refused r

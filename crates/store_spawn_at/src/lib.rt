@@ -391,7 +391,7 @@ fn done_by(said: Chosen) -> Done
 {
     match said {
         Chosen::Fresh(left) => Done::Granted(left),
-        Chosen::Over(_, left) => Done::Granted(left),
+        Chosen::Over(left, _) => Done::Granted(left),
         Chosen::Refused(r) => Done::Refused(r),
     }
 }
