@@ -43,7 +43,8 @@ use Rattle.store_tables.proofs.Places.{owns-means, vacating}
 use Rattle.store_tables.proofs.Vacating.{Vacates, vacates}
 use Rattle.store_despawn.specs.declared.Leaving.{Leaving}
 use Rattle.store_despawn.specs.declared.Leaving.the-variants as found
-use Rattle.store_despawn.specs.Despawn.{despawnRules, ended, despawned, leaving, leavingOf, Leaves, doneBy, Finds, despawning}
+use Rattle.store_despawn.specs.Despawn.{despawnRules, ended, despawned, despawning}
+use Rattle.store_despawn.specs.Seen.{leaving, leavingOf, Leaves, doneBy, Finds}
 use Rattle.store_despawn.proofs.Granting.{despawning-at}
 use Rattle.store_despawn.proofs.Laws.{DespawnOk, despawn-ok, leaving-parts}
 

@@ -15,7 +15,8 @@ use Rattle.decl.specs.Places.{spanOf}
 use Rattle.decl.specs.declared.Span.{Span}
 use Rattle.store_tables.specs.Store.{Store}
 use Rattle.store_tables.specs.Rows.{archetypeOf, rowOf, owns, movedDamaged}
-use Rattle.store_despawn.specs.Despawn.{despawnRules, leaving}
+use Rattle.store_despawn.specs.Despawn.{despawnRules}
+use Rattle.store_despawn.specs.Seen.{leaving}
 
 -- what passing the tests of a despawn gives, beyond the first
 pub record DespawnOk (s : Store) (g n : ℕ) : Type 0 where

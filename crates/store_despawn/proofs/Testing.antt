@@ -18,7 +18,8 @@ use Rattle.store_tables.specs.Rows.{archetypeOf, rowOf, owns, movedDamaged}
 use Rattle.store_tables.specs.Kept.{Entered}
 use Rattle.store_tables.specs.Seen.{ownSeen, ownOf, movedSeen}
 use Rattle.store_tables.proofs.Places.{owned, not-owned, moved-seen}
-use Rattle.store_despawn.specs.Despawn.{despawnRules, leaving}
+use Rattle.store_despawn.specs.Despawn.{despawnRules}
+use Rattle.store_despawn.specs.Seen.{leaving}
 
 pub unflushed : (s : Store) (g n : ℕ) → flushed (s .ids .head) ≡ false → refused 3 ≡ leaving s g n
 unfolding leaving despawnRules _orElse_

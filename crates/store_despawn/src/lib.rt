@@ -26,7 +26,8 @@ ghost use Rattle.store_steps.specs.Parts.{blockBy, partBy};
 ghost use Rattle.store_steps.specs.Seats.{seatsOf, vacatedSeats};
 ghost use Rattle.store_tables.specs.Store.{storeOf};
 ghost use Rattle.store_tables.specs.Kept.{Entered};
-ghost use Rattle.store_despawn.specs.Despawn.{despawning, leaving, leavingOf, Finds, Leaves, doneBy};
+ghost use Rattle.store_despawn.specs.Despawn.{despawning};
+ghost use Rattle.store_despawn.specs.Seen.{leaving, leavingOf, Finds, Leaves, doneBy};
 
 // The row that leaves: its archetype's part of the tables, and its place.
 enum Leaving {
