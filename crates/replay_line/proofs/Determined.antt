@@ -1,6 +1,6 @@
 -- The contracts determine the result and what is left: no second result fits. One instance a function, under its name.
 -- Assumes nothing.
-use Prim.Native.Nat.{ℕ, _%_, _^_}
+use Prim.Native.Nat.{ℕ, _%_, _^_, min}
 use mathlib.Core.Path.{_≡_, sym, _∙_}
 use mathlib.Core.List.{List}
 use lib.ListN.{getD, take, drop}
@@ -22,6 +22,9 @@ low number = one _
 
 pub number : (list : List ℕ) (at : ℕ) → One (getD list at 0)
 number list at = one _
+
+pub least : (told length : ℕ) → One (min told length)
+least told length = one _
 
 pub part : (list : List ℕ) (at count : ℕ) → One (take count (drop at list))
 part list at count = one _

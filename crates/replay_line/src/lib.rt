@@ -2,6 +2,7 @@
 mod digests;
 mod fills;
 mod lines;
+mod said;
 mod text;
 
 pub use digests::digest_bytes;
@@ -10,9 +11,11 @@ pub use digests::digest_words;
 pub use fills::fill_bytes;
 pub use fills::fill_numbers;
 pub use fills::fill_words;
+pub use lines::least;
 pub use lines::line;
 pub use lines::low;
 pub use lines::next;
 pub use lines::number;
 pub use lines::part;
+pub use said::say;
 pub use text::numbers;

@@ -1,6 +1,6 @@
 // A list of numbers as lines: each begins with how many numbers follow in it.
 ghost use mathlib.Core.Path.{_≡_};
-ghost use Prim.Native.Nat.{_+_, _%_, _^_, min};
+ghost use Prim.Native.Nat.{_+_, _%_, _^_, _≤_, min};
 ghost use lib.ListN.{length, getD, take, drop};
 ghost use Rattle.replay_line.specs.Lines.{lineAt, nextAt};
 
@@ -19,6 +19,17 @@ pub fn number(list: &[u64], at: usize) -> u64
         return list[at];
     }
     0
+}
+
+// A length that a list tells, where there is as much.
+pub fn least(told: u64, length: usize) -> usize
+    ensures { λ r. ⌜ r ≤ length ⌝ }
+    ensures { λ r. ⌜ r ≡ min told length ⌝ }
+{
+    if told < length as u64 {
+        return told as usize;
+    }
+    length
 }
 
 // So many numbers from a position on, or as many as there are.

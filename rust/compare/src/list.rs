@@ -1,40 +1,186 @@
-//! The fixed list that the program `replay` plays in the gate.
+//! The fixed lists that the programs `replay_..` play in the gate.
 //!
-//! Hexadecimal numbers with one space or line end between two of them. A line
-//! `1 ..` tells how much of the tables is lent (capacity, length of the pending
-//! table, of the row counts, 0) and all tables; `0` ends the list; every other
-//! line is a call: its position in [`crate::ours::CALLS`] plus 2, three
-//! arguments, the length of its bytes and the bytes, the places of its output,
-//! what it answers, and a digest of all that it leaves.
+//! A list is hexadecimal numbers, each with one space or line end after it:
+//! how many lines there are, then the lines. A line begins with how many
+//! numbers follow in it. Then come 1 and all tables of the program; or a call:
+//! its position among the program's calls plus 2, three arguments, the lengths
+//! of the tables that are not lent whole, and the words or bytes that it is
+//! lent beside the tables. Of each call the program prints a line: the
+//! refusal's number, the four numbers of the answer, and a digest of what it
+//! leaves of the tables, as far as they were lent, and of those words or bytes.
 
-use crate::ours::{Exchange, CALLS};
-use crate::tables::{damage_within, sound_of};
-use crate::{columns, ids, store, walks};
+use crate::ours::{Apart, Exchange, CALLS};
+use crate::tables::{above_limit, damage_within, sound_of};
+use crate::{columns, ids, store};
 use oracle::calls::{ColumnCall, IdCall, Original, Player, WordCall};
 use oracle::sequences::{column_call, column_tables, id_call, id_tables, some_word, Rng, WORDS};
 use oracle::{bits, place, ColumnTables, Columns, IdTables, Ids, No, Place, NOWHERE};
-use std::collections::BTreeMap;
+use std::collections::{BTreeMap, BTreeSet};
 use std::fmt::Write as _;
 
-/// The tables of the list, in order, and how long each is.
-const TABLES: [(&str, usize); 13] = [
-    ("head", 4),
-    ("rows", 6),
-    ("widths", 6),
-    ("types", 9),
-    ("sizes", 9),
-    ("generations", 16),
-    ("archetypes", 16),
-    ("indices", 16),
-    ("pending", 16),
-    ("numbers", 16),
-    ("counts", 6),
-    ("bytes", 64),
-    ("words", 9),
+/// How much of a table a call is lent: all of it, or what the line's first or second length says.
+#[derive(Clone, Copy, PartialEq)]
+enum Lent {
+    Whole,
+    First,
+    Second,
+}
+use Lent::{First, Second, Whole};
+
+/// A program, its tables in order with how many numbers of each a line tells, and its calls.
+struct Program {
+    name: &'static str,
+    tables: &'static [(&'static str, usize, Lent)],
+    calls: &'static [&'static str],
+}
+
+const IDS: &[(&str, usize, Lent)] = &[
+    ("head", 4, Whole),
+    ("generations", 16, First),
+    ("archetypes", 16, First),
+    ("indices", 16, First),
+    ("pending", 16, Second),
 ];
 
-/// What a call also leaves: bytes, an output of handles, a walking state, an answer's four numbers.
-const OUTPUTS: [(&str, usize); 4] = [("value", 80), ("handles", 20), ("state", 4), ("out", 4)];
+const COLUMNS: &[(&str, usize, Lent)] = &[
+    ("rows", 6, Whole),
+    ("widths", 6, Whole),
+    ("types", 9, Whole),
+    ("sizes", 9, Whole),
+    ("numbers", 16, Whole),
+    ("counts", 6, First),
+    ("bytes", 64, Second),
+];
+
+const STORE: &[(&str, usize, Lent)] = &[
+    ("head", 4, Whole),
+    ("rows", 6, Whole),
+    ("widths", 6, Whole),
+    ("types", 9, Whole),
+    ("sizes", 9, Whole),
+    ("generations", 16, Whole),
+    ("archetypes", 16, Whole),
+    ("indices", 16, Whole),
+    ("pending", 16, First),
+    ("numbers", 16, Whole),
+    ("counts", 6, Second),
+    ("bytes", 64, Whole),
+    ("words", 9, Whole),
+];
+
+const PROGRAMS: [Program; 7] = [
+    Program {
+        name: "replay_ids",
+        tables: IDS,
+        calls: &[
+            "verdict_word_shared",
+            "verdict_word_unique",
+            "verdict_word_release",
+            "verdict_word_unique_release",
+            "verdict_word_shared_at",
+            "verdict_word_unique_at",
+            "verdict_word_release_at",
+            "verdict_word_unique_release_at",
+            "verdict_handle_from_bits",
+            "verdict_handle_new",
+            "verdict_ids_reserve_entity",
+            "verdict_ids_alloc",
+            "verdict_ids_alloc_at",
+            "verdict_ids_free",
+            "verdict_ids_set_place",
+            "verdict_ids_contains",
+            "verdict_ids_get",
+            "verdict_ids_resolve_unknown_gen",
+            "verdict_ids_len",
+            "verdict_ids_clear",
+            "verdict_ids_reserve_entities",
+            "verdict_ids_alloc_many",
+            "verdict_ids_alloc_many_next",
+            "verdict_ids_flush",
+            "verdict_ids_freelist",
+        ],
+    },
+    Program {
+        name: "replay_columns",
+        tables: COLUMNS,
+        calls: &[
+            "verdict_columns_allocate",
+            "verdict_columns_remove",
+            "verdict_columns_move_out",
+            "verdict_columns_put",
+            "verdict_columns_get",
+            "verdict_columns_lookup",
+            "verdict_columns_ids",
+        ],
+    },
+    Program {
+        name: "replay_reads",
+        tables: STORE,
+        calls: &[
+            "verdict_store_get",
+            "verdict_store_contains",
+            "verdict_store_resolve_unknown_gen",
+            "verdict_store_len",
+            "verdict_store_read",
+            "verdict_store_write",
+            "verdict_store_borrow",
+            "verdict_store_borrow_mut",
+            "verdict_store_release",
+            "verdict_store_release_mut",
+        ],
+    },
+    Program {
+        name: "replay_reserve",
+        tables: STORE,
+        calls: &[
+            "verdict_store_reserve_entity",
+            "verdict_store_reserve_entities",
+            "verdict_store_freelist",
+        ],
+    },
+    Program {
+        name: "replay_components",
+        tables: STORE,
+        calls: &["verdict_store_insert", "verdict_store_remove"],
+    },
+    Program {
+        name: "replay_spawn",
+        tables: STORE,
+        calls: &["verdict_store_spawn", "verdict_store_spawn_at"],
+    },
+    Program {
+        name: "replay_despawn",
+        tables: STORE,
+        calls: &["verdict_store_despawn", "verdict_store_flush", "verdict_store_clear"],
+    },
+];
+
+/// Calls that no program plays: the walks over held references, which `compare` runs.
+const LEFT_OUT: &[&str] = &[
+    "verdict_ids_reserve_span",
+    "verdict_ids_reserve_next",
+    "verdict_ids_reserve_len",
+    "verdict_ids_alloc_many_len",
+];
+
+/// What the calls on words and handles can answer; of the others, [`store::WANTED`] says it.
+const WANTED: &[(&str, &[u32])] = &[
+    ("verdict_word_shared", &[0, 7, 9]),
+    ("verdict_word_unique", &[0, 8]),
+    ("verdict_word_release", &[0, 10, 11]),
+    ("verdict_word_unique_release", &[0, 11]),
+    ("verdict_word_shared_at", &[0, 7, 9]),
+    ("verdict_word_unique_at", &[0, 8]),
+    ("verdict_word_release_at", &[0, 10, 11]),
+    ("verdict_word_unique_release_at", &[0, 11]),
+    ("verdict_handle_from_bits", &[0, 5]),
+    ("verdict_handle_new", &[0, 5]),
+];
+
+fn wanted(call: &str) -> &'static [u32] {
+    let known = WANTED.iter().map(|w| (w.0, w.1)).chain(store::WANTED.iter().map(|w| (w.1, w.2)));
+    known.filter(|w| w.0 == call).map(|w| w.1).next().expect("a call whose answers are known")
+}
 
 /// The declaration that fits: six archetypes, nine columns, sixteen rows, 64 bytes.
 const DECLARED: [(u32, &[(u32, u32)]); 6] = [
@@ -46,106 +192,172 @@ const DECLARED: [(u32, &[(u32, u32)]); 6] = [
     (2, &[(12, 0), (4_000_000_000, 9)]),
 ];
 
-#[derive(Default)]
+/// How many words or bytes a program has room for beside its tables.
+const ROOM: usize = 80;
+
 struct List {
-    text: String,
-    /// Every table and output as it is now, by name.
+    program: &'static Program,
+    lines: Vec<String>,
+    told: String,
+    /// Every table as it is now, by name.
     now: BTreeMap<&'static str, Vec<u64>>,
-    /// How much of the tables is lent.
-    lengths: BTreeMap<&'static str, usize>,
-    calls: BTreeMap<u64, u64>,
-    answers: BTreeMap<u64, u64>,
+    /// Each call and each number that it answered.
+    seen: BTreeSet<(&'static str, u32)>,
+    calls: usize,
 }
 
-fn digest(now: &BTreeMap<&'static str, Vec<u64>>) -> u64 {
-    let mut sum = 0u64;
-    let mut step = |v: u64| sum = (sum % 8_796_093_022_151) * 1_048_573 + v;
-    for (name, _) in TABLES.iter().chain(&OUTPUTS) {
-        for v in &now[name] {
-            if ["head", "words", "handles", "out"].contains(name) {
-                step(v >> 32);
-            }
-            step(v & 0xffff_ffff);
-        }
-    }
-    sum
+/// A table's digest, after that of what came before.
+fn digest(sum: u64, table: &[u64], words: bool) -> u64 {
+    let mixed = |sum: u64, v: u64| (sum % 8_796_093_022_151) * 1_048_573 + v;
+    table.iter().fold(sum, |sum, v| {
+        let sum = if words { mixed(sum, v >> 32) } else { sum };
+        mixed(sum, v & 0xffff_ffff)
+    })
 }
 
 impl List {
-    fn new() -> List {
-        let empty = |(name, length): &(&'static str, usize)| (*name, vec![0; *length]);
-        List { now: TABLES.iter().chain(&OUTPUTS).map(empty).collect(), ..List::default() }
-    }
-
-    fn numbers(&mut self, values: impl IntoIterator<Item = u64>) {
-        for v in values {
-            let _ = write!(self.text, "{v:x} ");
+    fn new(name: &str) -> List {
+        let program = PROGRAMS.iter().find(|p| p.name == name).expect("a program");
+        let now = program.tables.iter().map(|t| (t.0, vec![0; t.1])).collect();
+        List {
+            program,
+            lines: Vec::new(),
+            told: String::new(),
+            now,
+            seen: BTreeSet::new(),
+            calls: 0,
         }
-        self.text.pop();
-        self.text.push('\n');
     }
 
-    /// Tells all tables where one is not as this call finds it.
-    fn tell(&mut self, parts: &[crate::ours::Apart]) {
-        let table = |name| TABLES.iter().any(|t| t.0 == name) || name == "state";
+    fn line(&mut self, values: &[u64]) {
+        let mut line = format!("{:x}", values.len());
+        for v in values {
+            let _ = write!(line, " {v:x}");
+        }
+        self.lines.push(line);
+    }
+
+    fn table(&self, name: &str) -> Option<&'static (&'static str, usize, Lent)> {
+        self.program.tables.iter().find(|t| t.0 == name)
+    }
+
+    /// Tells all tables where one is not as this call finds it. Past what a line tells there are zeros.
+    fn tell(&mut self, parts: &[Apart]) {
         let mut as_told = true;
-        for part in parts.iter().filter(|p| table(p.name)) {
-            let now = self.now.get_mut(part.name).unwrap();
-            let length = part.before.len();
-            assert!(length <= now.len(), "{} is too long for the list", part.name);
-            if now[..length] != part.before || self.lengths.get(part.name) != Some(&length) {
+        for part in parts {
+            let Some((name, whole, _)) = self.table(part.name) else { continue };
+            let told = part.before.len().min(*whole);
+            assert!(part.before[told..].iter().all(|v| *v == 0), "{name} is too long for the list");
+            let now = self.now.get_mut(name).unwrap();
+            if now[..told] != part.before[..told] {
                 as_told = false;
                 now.fill(0);
-                now[..length].copy_from_slice(&part.before);
-                self.lengths.insert(part.name, length);
+                now[..told].copy_from_slice(&part.before[..told]);
             }
         }
-        if as_told {
-            return;
+        if !as_told {
+            let tables = self.program.tables.iter().flat_map(|t| self.now[t.0].clone());
+            let line: Vec<u64> = [1].into_iter().chain(tables).collect();
+            self.line(&line);
         }
-        let length = |name, whole| self.lengths.get(name).copied().unwrap_or(whole) as u64;
-        let mut line =
-            vec![1, length("generations", 16), length("pending", 16), length("counts", 6), 0];
-        for (name, _) in TABLES.iter().chain(&OUTPUTS[2..3]) {
-            line.extend(&self.now[name]);
+    }
+
+    /// The two lengths of a call's tables; 0 for those that it is not lent.
+    fn lengths(&self, parts: &[Apart]) -> [usize; 2] {
+        let mut lengths = [None; 2];
+        for part in parts {
+            match self.table(part.name) {
+                Some((name, whole, Whole)) => {
+                    assert_eq!(part.before.len(), *whole, "{name} is lent whole");
+                }
+                Some((name, _, lent)) => {
+                    let length = &mut lengths[usize::from(*lent == Second)];
+                    assert!(length.is_none_or(|n| n == part.before.len()), "{name} differs");
+                    *length = Some(part.before.len());
+                }
+                None => {}
+            }
         }
-        self.numbers(line);
+        lengths.map(|n| n.unwrap_or(0))
+    }
+
+    /// The digest of what is left of the tables, as far as they were lent.
+    fn left(&self, lengths: [usize; 2]) -> u64 {
+        self.program.tables.iter().fold(0, |sum, (name, whole, lent)| {
+            let length = match lent {
+                Whole => *whole,
+                First => lengths[0],
+                Second => lengths[1],
+            };
+            let mut table = self.now[name].clone();
+            table.resize(length, 0);
+            digest(sum, &table, ["head", "words"].contains(name))
+        })
     }
 
     fn call(&mut self, e: &Exchange) {
-        let (numbers, parts) = e.taken_apart();
+        let (mut numbers, parts) = e.taken_apart();
+        let name = CALLS[e.index() as usize];
+        let position = self.program.calls.iter().position(|c| *c == name).expect("its call");
         self.tell(&parts);
-        let mut line = vec![e.index() + 2];
-        assert!(numbers.len() <= 3);
-        line.extend(numbers.iter().copied().chain([0; 3]).take(3));
-        let (mut value, mut places) = (Vec::new(), 0);
+        let lengths = self.lengths(&parts);
+        let (mut before, mut after, mut words) = (Vec::new(), Vec::new(), true);
+        let mut out = vec![0; 4];
         for part in &parts {
-            let name = match (part.name, part.size) {
-                ("run" | "taken" | "value", _) => {
-                    value.clone_from(&part.before);
-                    self.now.get_mut("value").unwrap()[..value.len()].copy_from_slice(&value);
-                    "value"
+            if self.table(part.name).is_some() {
+                let now = self.now.get_mut(part.name).unwrap();
+                now.iter_mut().zip(&part.after).for_each(|(n, v)| *n = *v);
+                continue;
+            }
+            match (part.name, part.size) {
+                ("out", 8) => out.clone_from(&part.after),
+                ("word", _) => {
+                    numbers.push(part.before[0]);
+                    out[0] = part.after[0];
                 }
-                ("handles", _) => {
-                    places = part.before.len() as u64;
-                    "handles"
-                }
-                ("out", 4) => "state",
-                (name, _) => name,
-            };
-            let now = self.now.get_mut(name).unwrap();
-            for (i, after) in part.after.iter().enumerate() {
-                if name != "handles" || part.before[i] != *after {
-                    now[i] = *after;
+                _ => {
+                    (before, after) = (part.before.clone(), part.after.clone());
+                    words = part.size != 1;
                 }
             }
         }
-        line.push(value.len() as u64);
-        line.extend(value);
-        line.extend([places, e.code(), digest(&self.now)]);
-        self.numbers(line);
-        *self.calls.entry(e.index() + 2).or_default() += 1;
-        *self.answers.entry(e.code()).or_default() += 1;
+        assert!(numbers.len() <= 3 && before.len() <= ROOM);
+        let mut line = vec![position as u64 + 2];
+        line.extend(numbers.iter().copied().chain([0; 3]).take(3));
+        line.extend(lengths.map(|n| n as u64));
+        line.extend(before);
+        self.line(&line);
+        let left = digest(self.left(lengths), &after, words);
+        let answer: String = out.iter().map(|v| format!(" {v:x}")).collect();
+        let _ = writeln!(self.told, "{:x}{answer} {left:x}", e.code());
+        self.seen.insert((name, e.code() as u32));
+        self.calls += 1;
+    }
+
+    /// The call, if the program plays it and has room for it, and the list is not long enough or lacks it.
+    fn add(&mut self, e: &Exchange, enough: usize) -> bool {
+        let name = CALLS[e.index() as usize];
+        let fits = |p: &Apart| self.table(p.name).is_some() || p.before.len() <= ROOM;
+        let wanted = self.calls < enough || !self.seen.contains(&(name, e.code() as u32));
+        let added = wanted && self.program.calls.contains(&name) && e.taken_apart().1.iter().all(fits);
+        if added {
+            self.call(e);
+        }
+        added
+    }
+
+    /// What must be in the list and is not: each call with each number that it can give.
+    fn missing(&self) -> Vec<String> {
+        let lacks = |call: &'static str| {
+            let codes = wanted(call).iter().filter(move |code| !self.seen.contains(&(call, **code)));
+            codes.map(move |code| format!("{}: {call} with {code}", self.program.name))
+        };
+        self.program.calls.iter().flat_map(|call| lacks(call)).collect()
+    }
+
+    /// What the program reads.
+    fn text(&self) -> String {
+        format!("{:x}\n{}\n", self.lines.len(), self.lines.join("\n"))
     }
 
     fn id(&mut self, ids: &mut Ids, call: IdCall) {
@@ -175,22 +387,22 @@ impl List {
         self.call(&columns::exchange(&call, &d, &before, &columns.tables(), code, &values));
     }
 
-    /// A word at position 3 of the nine.
+    /// A word alone, and at position 3 of nine.
     fn word(&mut self, which: usize, word: u64) {
-        const NAMES: [&str; 4] = [
-            "verdict_word_shared_at",
-            "verdict_word_unique_at",
-            "verdict_word_release_at",
-            "verdict_word_unique_release_at",
+        const NAMES: [(&str, &str); 4] = [
+            ("verdict_word_shared", "verdict_word_shared_at"),
+            ("verdict_word_unique", "verdict_word_unique_at"),
+            ("verdict_word_release", "verdict_word_release_at"),
+            ("verdict_word_unique_release", "verdict_word_unique_release_at"),
         ];
+        let (alone, at) = NAMES[which];
         let mut after = word;
         let (code, _) = Original.word(&mut after, WordCall::ALL[which]);
+        self.call(&Exchange::new(alone, code).array("word", &[word], &[after]));
         let (mut table, mut left) = ([1; 9], [1; 9]);
         (table[3], left[3]) = (word, after);
         let out = if code == 0 { vec![after] } else { Vec::new() };
-        let e =
-            Exchange::new(NAMES[which], code).slice("words", &table, &left).numbers(&[3]).out(&out);
-        self.call(&e);
+        self.call(&Exchange::new(at, code).slice("words", &table, &left).numbers(&[3]).out(&out));
     }
 
     fn unpack(&mut self, bits: u64) {
@@ -204,7 +416,7 @@ impl List {
         self.call(&Exchange::new("verdict_handle_new", code).numbers(&numbers).out(&out));
     }
 
-    /// Document 01's examples K1 to K13.
+    /// Document 01's examples K1 to K13, but for K10.
     fn examples(&mut self) {
         let at = |index| place(1, index);
         let fresh = || Ids::new(&IdTables::empty(16));
@@ -230,7 +442,7 @@ impl List {
             self.id(&mut ids, IdCall::Get(bits(1, 2)));
         }
         (0..3).for_each(|i| self.id(&mut ids, IdCall::Alloc(at(i + 5))));
-        // K5; 17 of 16 lies outside the original and is in the store's part
+        // K5; 17 of 16 lies outside the original and is among the calls that the second program answers
         let mut six = fresh();
         (0..6).for_each(|i| self.id(&mut six, IdCall::Alloc(at(i))));
         (0..6).for_each(|i| self.id(&mut six, IdCall::Free(bits(i, 1))));
@@ -258,12 +470,6 @@ impl List {
         let mut singles = Ids::new(&five.tables());
         self.id(&mut five, IdCall::AllocMany(2, at(7)));
         (0..2).for_each(|i| self.id(&mut singles, IdCall::Alloc(at(i + 7))));
-        // K10
-        let d = oracle::Declaration::of(&DECLARED);
-        let mut columns = Columns::new(&d, &ColumnTables::empty(&d));
-        (10..13).for_each(|n| self.column(&mut columns, ColumnCall::Allocate(2, n)));
-        self.column(&mut columns, ColumnCall::Remove(2, 0));
-        self.column(&mut columns, ColumnCall::Remove(2, 1));
         // K11, K13
         self.word(0, (1 << 63) - 1);
         self.word(0, 1 << 63);
@@ -280,75 +486,122 @@ impl List {
     }
 }
 
-/// The list and what the program is to write: how often each call comes and each number is answered.
-pub fn write(seed: u64) -> (String, String) {
-    let mut list = List::new();
-    let mut rng = Rng(seed);
-    list.examples();
-    for w in WORDS {
-        (0..4).for_each(|which| list.word(which, w));
-    }
-    for _ in 0..60 {
-        let w = some_word(&mut rng);
-        list.word(rng.below(4) as usize, w);
-        list.unpack(if rng.percent(70) { rng.number() } else { rng.below(1 << 33) });
-        list.pack(rng.number() as u32, rng.below(3) as u32);
-    }
-    for s in 0..50 {
-        let capacity = rng.pick(&[0, 1, 16, 16, 16, 16]);
-        let mut tables = id_tables(&mut rng, capacity, if s % 7 == 0 { 0 } else { capacity });
-        let mut ids = Ids::new(&tables);
-        for _ in 0..if capacity < 2 { 8 } else { 24 } {
-            let call = id_call(&mut rng, &tables);
-            list.id(&mut ids, call);
-            ids.dump(&mut tables);
+/// Calls that the second program answers, on sound and on damaged tables, until there are enough
+/// and every call and every number that it can give has occurred.
+fn of_second(list: &mut List, rng: &mut Rng, enough: usize) {
+    let played = |i: &usize| list.program.calls.contains(&store::WANTED[*i].1);
+    let kinds: Vec<usize> = store::exported().into_iter().filter(played).collect();
+    let ids = list.program.tables == IDS;
+    if ids {
+        let t = above_limit(rng);
+        for which in &kinds {
+            let called = store::made(rng, *which, &t).0;
+            list.add(&called, usize::MAX);
         }
     }
     let d = oracle::Declaration::of(&DECLARED);
-    for _ in 0..30 {
-        let mut columns = Columns::new(&d, &column_tables(&mut rng, &d));
-        for _ in 0..30 {
-            let call = column_call(&mut rng, &d, &columns.tables());
-            list.column(&mut columns, call);
+    for _ in 0..20_000 {
+        if list.calls >= enough && list.missing().is_empty() {
+            return;
         }
-    }
-    let exported = store::exported();
-    for s in 0..110 {
         let d = second::Declaration {
             rows: d.rows.clone(),
             widths: d.widths.clone(),
             types: d.types.clone(),
             sizes: d.sizes.clone(),
         };
-        let mut t = sound_of(&mut rng, d, if s % 9 == 0 { 1 } else { 16 });
-        damage_within(&mut rng, &mut t);
+        let capacity = if ids && rng.percent(10) { 1 } else { 16 };
+        let mut t = sound_of(rng, d, capacity);
+        damage_within(rng, &mut t);
         for _ in 0..15 {
-            let which = rng.pick(&exported);
-            let (exchange, _, after) = store::made(&mut rng, which, &t);
-            let (_, parts) = exchange.taken_apart();
-            let fits = |p: &crate::ours::Apart| match p.name {
-                "run" | "taken" | "value" => p.before.len() <= 80,
-                "handles" => p.before.len() <= 20,
-                _ => true,
-            };
-            if parts.iter().all(fits) {
-                list.call(&exchange);
+            let which = rng.pick(&kinds);
+            let (called, _, after) = store::made(rng, which, &t);
+            if list.add(&called, enough) {
                 t = after;
             }
         }
     }
-    list.text.push_str("0\n");
-    let mut told = String::new();
-    for (call, n) in &list.calls {
-        let _ = writeln!(told, "call {call}: {n}");
+    panic!("not in the list: {:?}", list.missing());
+}
+
+/// Words, handles and ids: the examples, then what the original answers, then the second program.
+fn of_ids(rng: &mut Rng) -> List {
+    let mut list = List::new("replay_ids");
+    list.examples();
+    for w in WORDS {
+        (0..4).for_each(|which| list.word(which, w));
     }
-    for (answer, n) in &list.answers {
-        let _ = writeln!(told, "answer {answer}: {n}");
+    for _ in 0..40 {
+        let w = some_word(rng);
+        list.word(rng.below(4) as usize, w);
+        list.unpack(if rng.percent(70) { rng.number() } else { rng.below(1 << 33) });
+        list.pack(rng.number() as u32, rng.below(3) as u32);
     }
-    told.push_str("differing: 0\n");
-    // the calls of the run `walks`, which come last, lend a reader that no line of the list can hold
-    let listed = 4..CALLS.len() - walks::CALLS;
-    let missing: Vec<_> = listed.filter(|i| !list.calls.contains_key(&(*i as u64 + 2))).collect();
-    assert!(missing.is_empty(), "calls that are not in the list: {missing:?}");
-    (list.text, told)
+    for s in 0..30 {
+        let capacity = rng.pick(&[0, 1, 16, 16, 16, 16]);
+        let mut tables = id_tables(rng, capacity, if s % 7 == 0 { 0 } else { capacity });
+        let mut ids = Ids::new(&tables);
+        for _ in 0..if capacity < 2 { 8 } else { 24 } {
+            let call = id_call(rng, &tables);
+            list.id(&mut ids, call);
+            ids.dump(&mut tables);
+        }
+    }
+    let enough = list.calls + 500;
+    of_second(&mut list, rng, enough);
+    list
+}
+
+/// Columns: K10, then what the original answers, then the second program.
+fn of_columns(rng: &mut Rng) -> List {
+    let mut list = List::new("replay_columns");
+    let d = oracle::Declaration::of(&DECLARED);
+    let mut columns = Columns::new(&d, &ColumnTables::empty(&d));
+    (10..13).for_each(|n| list.column(&mut columns, ColumnCall::Allocate(2, n)));
+    list.column(&mut columns, ColumnCall::Remove(2, 0));
+    list.column(&mut columns, ColumnCall::Remove(2, 1));
+    for _ in 0..20 {
+        let mut columns = Columns::new(&d, &column_tables(rng, &d));
+        for _ in 0..30 {
+            let call = column_call(rng, &d, &columns.tables());
+            list.column(&mut columns, call);
+        }
+    }
+    let enough = list.calls + 300;
+    of_second(&mut list, rng, enough);
+    list
+}
+
+/// A program's name, the list that it reads, what it must print, and how many calls that are.
+pub struct Written {
+    pub name: &'static str,
+    pub list: String,
+    pub told: String,
+    pub calls: usize,
+}
+
+/// Each program's list. A list's calls depend on the seed and the program alone.
+pub fn write(seed: u64) -> Vec<Written> {
+    let played = |call: &&&str| PROGRAMS.iter().any(|p| p.calls.contains(call));
+    let lost: Vec<_> = CALLS.iter().filter(|c| !played(c) && !LEFT_OUT.contains(c)).collect();
+    assert!(lost.is_empty(), "calls that no program plays: {lost:?}");
+    let lists = PROGRAMS.iter().map(|program| {
+        let mut rng = Rng(seed);
+        match program.name {
+            "replay_ids" => of_ids(&mut rng),
+            "replay_columns" => of_columns(&mut rng),
+            name => {
+                let mut list = List::new(name);
+                of_second(&mut list, &mut rng, 700);
+                list
+            }
+        }
+    });
+    let written = lists.map(|l| Written {
+        name: l.program.name,
+        list: l.text(),
+        told: l.told,
+        calls: l.calls,
+    });
+    written.collect()
 }

@@ -4,7 +4,7 @@
 //!     compare short                   the same with fewer calls
 //!     compare words|ids|columns|store|walks [SEED [COUNT]]
 //!     compare replay FILE             a call that was answered otherwise, once more
-//!     compare list [SEED]             writes the fixed list of the program `replay` and what it is to print
+//!     compare list [SEED]             writes the fixed lists of the programs `replay_..` and what they are to print
 //!
 //! `words`, `ids` and `columns` are held to the original (hecs 0.11.2, which
 //! HECS_SRC gives at build time), `store` to the second program, `walks` to both. The same seed
@@ -85,19 +85,22 @@ fn replay(file: &str) -> Result<(), String> {
     Err(format!("word {first} of the answer is {is:x?} instead of {must:x?}"))
 }
 
-/// Writes the list and the output that it must have into the folder of the program `replay`.
+/// Writes each list, and the output that it must have, into the folder of its program.
 fn write_list(seed: u64) -> Result<(), String> {
     if let Some(missing) = oracle::MISSING {
         return Err(missing.to_string());
     }
-    let folder = make::repository().join("crates/replay");
-    let (list, told) = list::write(seed);
-    for (name, text) in [("stdin", &list), ("stdout", &told)] {
-        let file = folder.join(name);
-        std::fs::write(&file, text).map_err(|why| format!("{}: {why}", file.display()))?;
+    for list::Written { name, list, told, calls } in list::write(seed) {
+        let folder = make::repository().join("crates").join(name);
+        let put = |file: &str, text: &str| {
+            std::fs::create_dir_all(&folder)
+                .and_then(|()| std::fs::write(folder.join(file), text))
+                .map_err(|why| format!("{}/{file}: {why}", folder.display()))
+        };
+        put("stdin", &list)?;
+        put("stdout", &told)?;
+        println!("{name}: {calls} calls in {} bytes", list.len());
     }
-    let calls = list.lines().filter(|l| !l.starts_with("1 ") && *l != "0").count();
-    println!("{calls} calls in {} bytes", list.len());
     Ok(())
 }
 
