@@ -125,8 +125,8 @@ fn walk(list: &[u64]) {
 }
 
 fn main() {
-    let mut text = [0u8; 300000];
-    let mut list = [0u64; 100000];
+    let mut text = [0u8; 65536];
+    let mut list = [0u64; 32768];
     let n = io::read_full(0, &mut text);
     replay_line::numbers(&text[..n], &mut list);
     walk(&list);

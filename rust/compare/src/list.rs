@@ -195,6 +195,10 @@ const DECLARED: [(u32, &[(u32, u32)]); 6] = [
 /// How many words or bytes a program has room for beside its tables.
 const ROOM: usize = 80;
 
+/// How many bytes and how many numbers of a list a program has room for.
+const BYTES: usize = 65_536;
+const NUMBERS: usize = 32_768;
+
 struct List {
     program: &'static Program,
     lines: Vec<String>,
@@ -339,7 +343,8 @@ impl List {
         let name = CALLS[e.index() as usize];
         let fits = |p: &Apart| self.table(p.name).is_some() || p.before.len() <= ROOM;
         let wanted = self.calls < enough || !self.seen.contains(&(name, e.code() as u32));
-        let added = wanted && self.program.calls.contains(&name) && e.taken_apart().1.iter().all(fits);
+        let added =
+            wanted && self.program.calls.contains(&name) && e.taken_apart().1.iter().all(fits);
         if added {
             self.call(e);
         }
@@ -349,7 +354,8 @@ impl List {
     /// What must be in the list and is not: each call with each number that it can give.
     fn missing(&self) -> Vec<String> {
         let lacks = |call: &'static str| {
-            let codes = wanted(call).iter().filter(move |code| !self.seen.contains(&(call, **code)));
+            let codes =
+                wanted(call).iter().filter(move |code| !self.seen.contains(&(call, **code)));
             codes.map(move |code| format!("{}: {call} with {code}", self.program.name))
         };
         self.program.calls.iter().flat_map(|call| lacks(call)).collect()
@@ -357,7 +363,10 @@ impl List {
 
     /// What the program reads.
     fn text(&self) -> String {
-        format!("{:x}\n{}\n", self.lines.len(), self.lines.join("\n"))
+        let text = format!("{:x}\n{}\n", self.lines.len(), self.lines.join("\n"));
+        let numbers = text.split_ascii_whitespace().count();
+        assert!(text.len() <= BYTES && numbers <= NUMBERS, "{} is too long", self.program.name);
+        text
     }
 
     fn id(&mut self, ids: &mut Ids, call: IdCall) {
@@ -592,7 +601,8 @@ pub fn write(seed: u64) -> Vec<Written> {
             "replay_columns" => of_columns(&mut rng),
             name => {
                 let mut list = List::new(name);
-                of_second(&mut list, &mut rng, 700);
+                let enough = if name == "replay_reserve" { 500 } else { 800 };
+                of_second(&mut list, &mut rng, enough);
                 list
             }
         }
