@@ -27,9 +27,6 @@ pub const WANTED: &[(&str, &[u32])] = &[
     ("alloc many len, any tables", &[0]),
 ];
 
-/// How many calls no other run makes: the last ones of [`crate::ours::CALLS`].
-pub const CALLS: usize = 4;
-
 /// The names of a call's kinds, where it is held to the original or to the second program.
 struct Names {
     next: &'static str,
