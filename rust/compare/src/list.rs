@@ -425,6 +425,28 @@ impl List {
         self.call(&Exchange::new("verdict_handle_new", code).numbers(&numbers).out(&out));
     }
 
+    /// A call that lies outside the original: the second program refuses it.
+    fn outside(&mut self, ids: &Ids, call: IdCall) {
+        let t = ids.tables();
+        let mut lent = second::fresh(second::Declaration::default(), t.generations.len());
+        (lent.generations, lent.pending) = (t.generations.clone(), t.pending.clone());
+        (lent.archetypes, lent.indices) = (t.archetypes.clone(), t.indices.clone());
+        let [used, pending, cursor, live] = ids::head_words(t.head);
+        lent.head = second::Head { used, pending, cursor: cursor as i64, live };
+        let said = match call {
+            IdCall::ReserveEntities(n) => {
+                second::ids::reserve_entities(&mut lent, n.into(), &mut vec![0; n as usize])
+            }
+            IdCall::AllocAt(bits, p) => {
+                let place = second::Place { archetype: p.archetype, index: p.index };
+                second::ids::alloc_at(&mut lent, bits, place).map(|_| ())
+            }
+            _ => unreachable!("{call:?}"),
+        };
+        let code = said.expect_err("a refusal");
+        self.call(&ids::exchange(&call, &t, &t, code, &[]));
+    }
+
     /// Document 01's examples K1 to K13, but for K10.
     fn examples(&mut self) {
         let at = |index| place(1, index);
@@ -451,7 +473,7 @@ impl List {
             self.id(&mut ids, IdCall::Get(bits(1, 2)));
         }
         (0..3).for_each(|i| self.id(&mut ids, IdCall::Alloc(at(i + 5))));
-        // K5; 17 of 16 lies outside the original and is among the calls that the second program answers
+        // K5
         let mut six = fresh();
         (0..6).for_each(|i| self.id(&mut six, IdCall::Alloc(at(i))));
         (0..6).for_each(|i| self.id(&mut six, IdCall::Free(bits(i, 1))));
@@ -459,6 +481,7 @@ impl List {
         self.id(&mut six, IdCall::ReserveEntities(9));
         self.id(&mut six, IdCall::Flush(at(0)));
         self.id(&mut six, IdCall::Len);
+        self.outside(&all, IdCall::ReserveEntities(17));
         self.id(&mut all, IdCall::ReserveEntities(16));
         // K6
         self.id(&mut fresh(), IdCall::ReserveEntities(0));
@@ -471,6 +494,7 @@ impl List {
         let mut chosen = fresh();
         self.id(&mut chosen, IdCall::AllocAt(bits(5, 9), at(0)));
         self.id(&mut chosen, IdCall::AllocAt(bits(2, 1), at(1)));
+        self.outside(&chosen, IdCall::AllocAt(bits(16, 1), at(2)));
         self.id(&mut chosen, IdCall::AllocAt(bits(15, 1), at(2)));
         // K9, from pending [4, 1, 3]: a batch, and two singles
         let mut five = fresh();
