@@ -7,7 +7,7 @@ use lib.ListN.{getD, take, drop}
 use Rattle.replay_line.specs.Through.{through}
 use Rattle.replay_line.specs.Text.{readFrom}
 use Rattle.replay_line.specs.Lines.{lineAt, nextAt}
-use Rattle.replay_line.specs.Tables.{words, filled, mixed, mixedWord}
+use Rattle.replay_line.specs.Tables.{words, filled, mixed, mixedWord, mixedLow}
 use Rattle.replay_line.specs.Tables.{numbers as keptNumbers, bytes as keptBytes}
 
 -- one value meets an equation with a rule
@@ -44,8 +44,17 @@ fill-numbers table values = one _
 pub fill-bytes : (table values : List ℕ) → One (filled keptBytes table values)
 fill-bytes table values = one _
 
+pub widen-numbers : (table values : List ℕ) → One (filled words table values)
+widen-numbers table values = one _
+
+pub widen-bytes : (table values : List ℕ) → One (filled words table values)
+widen-bytes table values = one _
+
 pub digest-words : (digest : ℕ) (table : List ℕ) → One (through mixedWord digest table)
 digest-words digest table = one _
+
+pub digest-low : (digest : ℕ) (table : List ℕ) → One (through mixedLow digest table)
+digest-low digest table = one _
 
 pub digest-numbers : (digest : ℕ) (table : List ℕ) → One (through mixed digest table)
 digest-numbers digest table = one _

@@ -28,3 +28,6 @@ mixed digest v = digest % 8796093022151 * 1048573 + v
 -- of a word, the high half and then the low half
 unfoldable pub mixedWord : ℕ → ℕ → ℕ
 mixedWord digest v = mixed (mixed digest (v / 2 ^ 32 % 2 ^ 32)) (v % 2 ^ 32)
+
+unfoldable pub mixedLow : ℕ → ℕ → ℕ
+mixedLow digest v = mixed digest (v % 2 ^ 32)

@@ -2,7 +2,7 @@
 use crate::lines::low;
 ghost use mathlib.Core.Path.{_≡_};
 ghost use Rattle.replay_line.specs.Through.{through};
-ghost use Rattle.replay_line.specs.Tables.{mixed, mixedWord};
+ghost use Rattle.replay_line.specs.Tables.{mixed, mixedWord, mixedLow};
 
 fn mix(digest: u64, value: u32) -> u64
     ensures { λ r. ⌜ r ≡ mixed digest value ⌝ }
@@ -24,6 +24,25 @@ pub fn digest_words(digest: u64, table: &[u64]) -> u64
     let mut i = 0;
     while i < table.len() {
         sum = mix_word(sum, table[i]);
+        i += 1;
+    }
+    sum
+}
+
+fn mix_low(digest: u64, value: u64) -> u64
+    ensures { λ r. ⌜ r ≡ mixedLow digest value ⌝ }
+{
+    mix(digest, low(value))
+}
+
+// The low half of each word.
+pub fn digest_low(digest: u64, table: &[u64]) -> u64
+    ensures { λ r. ⌜ r ≡ through mixedLow digest (now (table .entry)) ⌝ }
+{
+    let mut sum = digest;
+    let mut i = 0;
+    while i < table.len() {
+        sum = mix_low(sum, table[i]);
         i += 1;
     }
     sum

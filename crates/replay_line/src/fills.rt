@@ -60,3 +60,37 @@ pub fn fill_bytes(table: &mut [u8], values: &[u64])
         i += 1;
     }
 }
+
+fn wide_number(number: u32) -> u64
+    ensures { λ r. ⌜ r ≡ number ⌝ }
+{
+    number as u64
+}
+
+fn wide_byte(byte: u8) -> u64
+    ensures { λ r. ⌜ r ≡ byte ⌝ }
+{
+    byte as u64
+}
+
+// Each number as a word.
+pub fn widen_numbers(table: &mut [u64], values: &[u32])
+    ensures { λ _. ⌜ now (table .exit) ≡ filled words (now (table .entry)) (now (values .entry)) ⌝ }
+{
+    let mut i = 0;
+    while i < values.len() {
+        put_word(table, i, wide_number(values[i]));
+        i += 1;
+    }
+}
+
+// Each byte as a word.
+pub fn widen_bytes(table: &mut [u64], values: &[u8])
+    ensures { λ _. ⌜ now (table .exit) ≡ filled words (now (table .entry)) (now (values .entry)) ⌝ }
+{
+    let mut i = 0;
+    while i < values.len() {
+        put_word(table, i, wide_byte(values[i]));
+        i += 1;
+    }
+}

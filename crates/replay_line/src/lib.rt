@@ -6,11 +6,14 @@ mod said;
 mod text;
 
 pub use digests::digest_bytes;
+pub use digests::digest_low;
 pub use digests::digest_numbers;
 pub use digests::digest_words;
 pub use fills::fill_bytes;
 pub use fills::fill_numbers;
 pub use fills::fill_words;
+pub use fills::widen_bytes;
+pub use fills::widen_numbers;
 pub use lines::least;
 pub use lines::line;
 pub use lines::low;
