@@ -1,0 +1,2 @@
+-- Tables that lie in one list.
+pub mod Store
