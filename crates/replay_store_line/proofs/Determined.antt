@@ -5,7 +5,7 @@ use mathlib.Core.Path.{_≡_, sym, _∙_}
 use mathlib.Core.List.{List}
 use lib.ListN.{length, getD, take, drop, replicate}
 use Rattle.replay_line.specs.Tables.{words, numbers, bytes, filled}
-use Rattle.replay_store_line.specs.Store.{kept, digestOf}
+use Rattle.replay_store_line.specs.Store.{kept, keptAll, digestOf}
 
 -- one value meets an equation with a rule
 abbrev One : {A : Type 0} → A → Type 0
@@ -40,6 +40,10 @@ keep-numbers tables at values = one _
 
 pub keep-bytes : (tables : List ℕ) (at : ℕ) (values : List ℕ) → One (kept tables at values)
 keep-bytes tables at values = one _
+
+pub keep : (tables head generations archetypes indices pending numbers counts bytes words : List ℕ)
+    → One (keptAll tables head generations archetypes indices pending numbers counts bytes words)
+keep tables head generations archetypes indices pending numbers counts bytes words = one _
 
 pub pending-lent : (line : List ℕ) → One (min (getD line 4 0) 16)
 pending-lent line = one _

@@ -11,6 +11,11 @@ use Rattle.replay_line.specs.Tables.{words, filled, mixedWord, mixedLow}
 unfoldable pub kept : List ℕ → ℕ → List ℕ → List ℕ
 kept tables at values = cond (ltb at (length tables)) (take at tables ++ filled words (drop at tables) values) tables
 
+-- all tables that a call may change
+unfoldable pub keptAll : List ℕ → List ℕ → List ℕ → List ℕ → List ℕ → List ℕ → List ℕ → List ℕ → List ℕ → List ℕ → List ℕ
+keptAll t head generations archetypes indices pending numbers counts bytes words =
+    kept (kept (kept (kept (kept (kept (kept (kept (kept t 0 head) 34 generations) 50 archetypes) 66 indices) 82 pending) 98 numbers) 114 counts) 120 bytes) 184 words
+
 -- so many numbers from a position on
 abbrev pub table : List ℕ → ℕ → ℕ → List ℕ
 table tables at count = take count (drop at tables)

@@ -13,7 +13,7 @@ ghost use mathlib.Core.Path.{_≡_};
 ghost use Prim.Native.Nat.{_≤_, min};
 ghost use lib.ListN.{length, getD, take, drop, replicate};
 ghost use Rattle.replay_line.specs.Tables.{filled, words, numbers, bytes};
-ghost use Rattle.replay_store_line.specs.Store.{kept, digestOf};
+ghost use Rattle.replay_store_line.specs.Store.{kept, keptAll, digestOf};
 
 // How many numbers there are in all, and where each table begins; the head begins the list.
 pub const ALL: usize = 193;
@@ -42,7 +42,9 @@ pub const BYTES: usize = 120;
 
 pub const WORDS: usize = 184;
 
+// An array is lent as a slice, or a part of it, where its length is told.
 pub fn head(tables: &[u64]) -> [u64; 4]
+    ensures { λ r. ⌜ 4 ≡ length r ⌝ }
     ensures { λ r. ⌜ r ≡ filled words (replicate 4 0) (take 4 (drop 0 (now (tables .entry)))) ⌝ }
 {
     let mut table = [0u64; 4];
@@ -51,6 +53,7 @@ pub fn head(tables: &[u64]) -> [u64; 4]
 }
 
 pub fn nine_words(tables: &[u64], at: usize) -> [u64; 9]
+    ensures { λ r. ⌜ 9 ≡ length r ⌝ }
     ensures { λ r. ⌜ r ≡ filled words (replicate 9 0) (take 9 (drop at (now (tables .entry)))) ⌝ }
 {
     let mut table = [0u64; 9];
@@ -58,7 +61,6 @@ pub fn nine_words(tables: &[u64], at: usize) -> [u64; 9]
     table
 }
 
-// A part of an array is lent where its length is told.
 pub fn six(tables: &[u64], at: usize) -> [u32; 6]
     ensures { λ r. ⌜ 6 ≡ length r ⌝ }
     ensures { λ r. ⌜ r ≡ filled numbers (replicate 6 0) (take 6 (drop at (now (tables .entry)))) ⌝ }
@@ -69,6 +71,7 @@ pub fn six(tables: &[u64], at: usize) -> [u32; 6]
 }
 
 pub fn nine(tables: &[u64], at: usize) -> [u32; 9]
+    ensures { λ r. ⌜ 9 ≡ length r ⌝ }
     ensures { λ r. ⌜ r ≡ filled numbers (replicate 9 0) (take 9 (drop at (now (tables .entry)))) ⌝ }
 {
     let mut table = [0u32; 9];
@@ -86,6 +89,7 @@ pub fn sixteen(tables: &[u64], at: usize) -> [u32; 16]
 }
 
 pub fn sixty_four_bytes(tables: &[u64], at: usize) -> [u8; 64]
+    ensures { λ r. ⌜ 64 ≡ length r ⌝ }
     ensures { λ r. ⌜ r ≡ filled bytes (replicate 64 0) (take 64 (drop at (now (tables .entry)))) ⌝ }
 {
     let mut table = [0u8; 64];
@@ -115,6 +119,32 @@ pub fn keep_bytes(tables: &mut [u64], at: usize, values: &[u8])
     if at < tables.len() {
         widen_bytes(&mut tables[at..], values);
     }
+}
+
+// What a call leaves of all tables that it may change.
+pub fn keep(
+    tables: &mut [u64],
+    head: &[u64],
+    generations: &[u32],
+    archetypes: &[u32],
+    indices: &[u32],
+    pending: &[u32],
+    numbers: &[u32],
+    counts: &[u32],
+    bytes: &[u8],
+    words: &[u64],
+)
+    ensures { λ _. ⌜ now (tables .exit) ≡ keptAll (now (tables .entry)) (now (head .entry)) (now (generations .entry)) (now (archetypes .entry)) (now (indices .entry)) (now (pending .entry)) (now (numbers .entry)) (now (counts .entry)) (now (bytes .entry)) (now (words .entry)) ⌝ }
+{
+    keep_words(tables, 0, head);
+    keep_numbers(tables, GENERATIONS, generations);
+    keep_numbers(tables, ARCHETYPES, archetypes);
+    keep_numbers(tables, INDICES, indices);
+    keep_numbers(tables, PENDING, pending);
+    keep_numbers(tables, NUMBERS, numbers);
+    keep_numbers(tables, COUNTS, counts);
+    keep_bytes(tables, BYTES, bytes);
+    keep_words(tables, WORDS, words);
 }
 
 // How much of the pending list and of the counts a call is lent.

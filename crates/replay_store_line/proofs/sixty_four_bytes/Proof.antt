@@ -5,7 +5,7 @@ use Rattle.replay_store_line.proofs.sixty_four_bytes.Statement.{stateme
 use Rattle.replay_store_line.proofs.sixty_four_bytes.Tie as tie
 
 returns : tie.Need-returns
-returns c = rw (c .before .before .part .ensures) at (c .before .fill-bytes .ensures)
+returns c = (search needs, rw (c .before .before .part .ensures) at (c .before .fill-bytes .ensures))
 
 pub sixty-four-bytes-spec : {M : Type 1} → statement M
 sixty-four-bytes-spec = tie.close (tie.spec (λ c. search needs) (λ c κs. search needs) (λ c κs. search needs) returns)
