@@ -23,9 +23,9 @@ pub fn answer(
     words: &mut [u64],
 ) -> u32 {
     let call = number(line, 0);
-    let a = number(line, 1);
+    let a = low(number(line, 1));
     let b = low(number(line, 2));
-    if call == 8 {
+    if call == 7 {
         return verdict_store_borrow(
             head,
             rows,
@@ -40,11 +40,11 @@ pub fn answer(
             counts,
             bytes,
             words,
-            low(a),
+            a,
             b,
         );
     }
-    if call == 9 {
+    if call == 8 {
         return verdict_store_borrow_mut(
             head,
             rows,
@@ -59,11 +59,11 @@ pub fn answer(
             counts,
             bytes,
             words,
-            low(a),
+            a,
             b,
         );
     }
-    if call == 10 {
+    if call == 9 {
         return verdict_store_release(
             head,
             rows,
@@ -78,7 +78,7 @@ pub fn answer(
             counts,
             bytes,
             words,
-            low(a),
+            a,
             b,
         );
     }
@@ -96,7 +96,7 @@ pub fn answer(
         counts,
         bytes,
         words,
-        low(a),
+        a,
         b,
     )
 }

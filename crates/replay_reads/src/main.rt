@@ -1,7 +1,8 @@
-// Plays the fixed list of the store's reads, writes, borrows and lookups, and prints of each call the refusal's number, what it answers, and a digest of what it leaves.
-mod calls;
+// Plays the fixed list of the store's calls that leave every row as it is, and prints of each call the refusal's number, what it answers, and a digest of what it leaves.
 mod holds;
 mod lookups;
+mod reserves;
+mod tables;
 
 use replay_line::fill_words;
 use replay_line::line;
@@ -13,18 +14,11 @@ use replay_store_line::ALL;
 const TABLES: u64 = 1;
 
 fn turn(tables: &mut [u64], line: &[u64]) {
-    let call = number(line, 0);
-    if call == TABLES {
+    if number(line, 0) == TABLES {
         fill_words(tables, part(line, 1, ALL));
         return;
     }
-    if call < 7 {
-        return calls::look(tables, line);
-    }
-    if call == 7 {
-        return calls::write(tables, line);
-    }
-    calls::hold(tables, line);
+    tables::play(tables, line);
 }
 
 // The list begins with the number of its lines.

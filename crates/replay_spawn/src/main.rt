@@ -1,5 +1,6 @@
-// Plays the fixed list of spawns, and prints of each call the refusal's number, what it answers, and a digest of what it leaves.
-mod calls;
+// Plays the fixed list of the store's calls that give an entity its row or take it, and prints of each call the refusal's number, what it answers, and a digest of what it leaves.
+mod entities;
+mod tables;
 
 use replay_line::fill_words;
 use replay_line::line;
@@ -11,15 +12,11 @@ use replay_store_line::ALL;
 const TABLES: u64 = 1;
 
 fn turn(tables: &mut [u64], line: &[u64]) {
-    let call = number(line, 0);
-    if call == TABLES {
+    if number(line, 0) == TABLES {
         fill_words(tables, part(line, 1, ALL));
         return;
     }
-    if call == 2 {
-        return calls::spawn(tables, line);
-    }
-    calls::spawn_at(tables, line);
+    tables::play(tables, line);
 }
 
 // The list begins with the number of its lines.

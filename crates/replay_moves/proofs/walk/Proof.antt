@@ -1,11 +1,11 @@
--- `replay_components::walk` meets its contract. The measure is how many lines are left.
+-- `replay_moves::walk` meets its contract. The measure is how many lines are left.
 -- Assumes nothing.
 use mathlib.Core.Path.{_≡_, refl}
 use native.Mathlib.Omega.{arith}
 use borrow.Author.Needs.{needs}
 use lib.ListN.{length}
-use Rattle.replay_components.proofs.walk.Statement.{statement}
-use Rattle.replay_components.proofs.walk.Tie as tie
+use Rattle.replay_moves.proofs.walk.Statement.{statement}
+use Rattle.replay_moves.proofs.walk.Tie as tie
 
 abbrev Inv-loop : tie.InvT-loop
 Inv-loop list tables₀ left₀ at₀ tables left at = length tables ≡ length tables₀
