@@ -3,26 +3,20 @@
 //!
 //! Each case runs some calls from given tables. Before anything is measured the
 //! two sides are compared: the answers of all calls and the tables that are
-//! left, entries past the counts included, must be the same.
+//! left, entries past the counts included, must be the same. Without the
+//! original there is nothing beside which to measure, and the crate is empty.
 
-#[cfg(not(no_hecs))]
+#![cfg(not(no_hecs))]
+
 pub mod cases;
-#[cfg(not(no_hecs))]
 pub mod counts;
-#[cfg(not(no_hecs))]
 pub mod growth;
-#[cfg(not(no_hecs))]
 pub mod measure;
-#[cfg(not(no_hecs))]
 mod ours;
-#[cfg(not(no_hecs))]
 pub mod report;
-#[cfg(not(no_hecs))]
 mod theirs;
 
-#[cfg(not(no_hecs))]
 pub use ours::Ours;
-#[cfg(not(no_hecs))]
 pub use theirs::Theirs;
 
 use oracle::{ColumnTables, Declaration, IdTables};

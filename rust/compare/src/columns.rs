@@ -4,7 +4,7 @@ use crate::ours::{Difference, Exchange, Ours};
 use crate::tally::Tally;
 use oracle::calls::ColumnCall;
 use oracle::sequences::{column_call, column_tables, declaration, Rng};
-use oracle::{ColumnTables, Columns, Declaration, No};
+use oracle::{ColumnTables, Columns, Declaration};
 
 pub const WANTED: &[(&str, &[u32])] = &[
     ("allocate", &[0]),
@@ -105,16 +105,9 @@ pub fn run(ours: &mut Ours, tally: &mut Tally, seed: u64, count: u64) -> Result<
             let call = column_call(&mut rng, &d, &before);
             let said = columns.call(&call);
             columns.dump(&mut after);
-            let (code, values) = match said {
-                Ok(values) => (0, values),
-                Err(No::Refused(number)) => (number, Vec::new()),
-                Err(No::Outside(number)) => {
-                    tally.left_out(kind(&call), number);
-                    continue;
-                }
-                Err(No::Panicked(words)) => panic!("the original panicked on {call:?}: {words}"),
+            let Some((code, values)) = tally.answered(kind(&call), 7, &call, said) else {
+                continue;
             };
-            tally.called(kind(&call), code, 7);
             ours.compare(exchange(&call, &d, &before, &after, code, &values))?;
             before.clone_from(&after);
         }

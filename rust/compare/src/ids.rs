@@ -4,7 +4,7 @@ use crate::ours::{Difference, Exchange, Ours};
 use crate::tally::Tally;
 use oracle::calls::IdCall;
 use oracle::sequences::{id_call, id_tables, Rng};
-use oracle::{Head, IdTables, Ids, No, Place};
+use oracle::{Head, IdTables, Ids, Place};
 
 pub const WANTED: &[(&str, &[u32])] = &[
     ("reserve entity", &[0]),
@@ -163,16 +163,9 @@ pub fn run(ours: &mut Ours, tally: &mut Tally, seed: u64, count: u64) -> Result<
             let call = id_call(&mut rng, &before);
             let said = ids.call(&call);
             ids.dump(&mut after);
-            let (code, values) = match said {
-                Ok(values) => (0, values),
-                Err(No::Refused(number)) => (number, Vec::new()),
-                Err(No::Outside(number)) => {
-                    tally.left_out(kind(&call), number);
-                    continue;
-                }
-                Err(No::Panicked(words)) => panic!("the original panicked on {call:?}: {words}"),
+            let Some((code, values)) = tally.answered(kind(&call), 5, &call, said) else {
+                continue;
             };
-            tally.called(kind(&call), code, 5);
             ours.compare(exchange(&call, &before, &after, code, &values))?;
             if let (IdCall::AllocMany(..), 0) = (&call, code) {
                 for step in walk(&after.pending, &values) {

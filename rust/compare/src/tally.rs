@@ -1,6 +1,9 @@
 //! What a run did: calls of each kind, refusals by number, tables compared.
 
+use oracle::calls::{compared, Answer};
+use oracle::Said;
 use std::collections::BTreeMap;
+use std::fmt::Debug;
 
 #[derive(Clone, Debug, Default)]
 struct Kind {
@@ -25,6 +28,26 @@ impl Tally {
 
     pub fn left_out(&mut self, kind: &'static str, code: u32) {
         *self.kinds.entry(kind).or_default().outside.entry(code).or_default() += 1;
+    }
+
+    /// What the original answered to a call that is now counted, or none where it is left out.
+    pub fn answered(
+        &mut self,
+        kind: &'static str,
+        tables: u64,
+        call: &impl Debug,
+        said: Said<Vec<u64>>,
+    ) -> Option<Answer> {
+        match compared(said, call) {
+            Ok(answer) => {
+                self.called(kind, answer.0, tables);
+                Some(answer)
+            }
+            Err(number) => {
+                self.left_out(kind, number);
+                None
+            }
+        }
     }
 
     pub fn calls(&self) -> u64 {

@@ -36,9 +36,21 @@
 //! A refused call has no values.
 
 use crate::*;
+use std::fmt::Debug;
 
 /// The refusal number, 0 if granted, and the values.
 pub type Answer = (u32, Vec<u64>);
+
+/// The answer to a call within what is compared, or the number with which document 01 refuses one
+/// that lies outside. Any other trouble ends the program.
+pub fn compared(said: Said<Vec<u64>>, call: &impl Debug) -> Result<Answer, u32> {
+    match said {
+        Ok(values) => Ok((0, values)),
+        Err(No::Refused(number)) => Ok((number, Vec::new())),
+        Err(No::Outside(number)) => Err(number),
+        Err(No::Panicked(words)) => panic!("the original panicked on {call:?}: {words}"),
+    }
+}
 
 #[derive(Clone, Copy, Debug, PartialEq, Eq)]
 pub enum IdCall {

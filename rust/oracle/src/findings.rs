@@ -109,10 +109,7 @@ mod comments {
 
     #[test]
     fn before_finish_alloc_many_a_live_number_is_free() {
-        let mut e = Entities::default();
-        let first = e.alloc();
-        e.meta[0].location = Location { archetype: 1, index: 0 };
-        e.free(first).unwrap();
+        let mut e = open::one_freed();
         let mut state = e.alloc_many(1, 1, 0);
         assert_eq!(at(e.get(entity(0, 2)).unwrap()), (1, 0), "live");
         assert_eq!(state.next(&e), Some(0));
@@ -337,10 +334,7 @@ mod intended {
 
     #[test]
     fn a_walk_after_finish_misses_the_recycled_numbers() {
-        let mut e = Entities::default();
-        let first = e.alloc();
-        e.meta[0].location = Location { archetype: 1, index: 0 };
-        e.free(first).unwrap();
+        let mut e = open::one_freed();
         let state = e.alloc_many(2, 1, 0);
         let mut before = state.clone();
         assert_eq!([before.next(&e), before.next(&e), before.next(&e)], [Some(0), Some(1), None]);

@@ -8,10 +8,7 @@ use crate::{bits, Head, MAX};
 
 /// Number 0 free at generation 2, and reserved.
 fn one_reserved() -> Entities {
-    let mut e = Entities::default();
-    let first = e.alloc();
-    e.meta[0].location = Location { archetype: 1, index: 0 };
-    e.free(first).unwrap();
+    let e = open::one_freed();
     assert_eq!(e.reserve_entity().to_bits().get(), bits(0, 2));
     e
 }
@@ -52,10 +49,7 @@ fn get_dynamic_answers_for_any_row() {
 
 #[test]
 fn alloc_many_stores_index_max() {
-    let mut e = Entities::default();
-    let first = e.alloc();
-    e.meta[0].location = Location { archetype: 1, index: 0 };
-    e.free(first).unwrap();
+    let mut e = open::one_freed();
     e.alloc_many(1, 1, MAX);
     assert_eq!(e.meta[0].location.index, MAX);
     assert_eq!(e.len(), 1);

@@ -9,6 +9,7 @@ fn the_examples() {}
 #[cfg(not(no_hecs))]
 mod on_the_original {
     use oracle::*;
+    use std::ops::Range;
 
     const MAX_GENERATION: u32 = 4_294_967_295;
     const TOP: u64 = 1 << 63;
@@ -35,6 +36,23 @@ mod on_the_original {
 
     fn pending(ids: &Ids) -> Vec<u32> {
         ids.tables().pending[..ids.head().pending].to_vec()
+    }
+
+    /// A step of a walk: the positions and the new numbers that are left before it, how many that
+    /// is, and what it gives.
+    type Step = (Range<usize>, Range<u32>, usize, Option<u64>);
+
+    /// The walk of these steps, after the last of which it stands as before it.
+    fn walk(steps: &[Step]) -> Walk {
+        let stand = |(positions, fresh, len, _): &Step| Stand {
+            positions: positions.clone(),
+            fresh: fresh.clone(),
+            len: *len,
+        };
+        Walk {
+            stands: steps.iter().chain(steps.last()).map(stand).collect(),
+            given: steps.iter().map(|step| step.3).collect(),
+        }
     }
 
     #[test]
@@ -184,42 +202,33 @@ mod on_the_original {
     /// left, and what it gives; at the end none, twice, and it stays.
     #[test]
     fn k5_and_k9_step_by_step() {
-        let stand = |positions, fresh, len| Stand { positions, fresh, len };
         let mut reserved = started(6, 2, &[5, 3, 0, 1, 4, 2], 2);
-        let walk = reserved.reserve_walk(4).unwrap();
-        assert_eq!(
-            walk.given,
-            [Some(bits(5, 2)), Some(bits(3, 2)), Some(bits(6, 1)), Some(bits(7, 1)), None, None]
-        );
-        let stands = [
-            stand(0..2, 6..8, 4),
-            stand(1..2, 6..8, 3),
-            stand(2..2, 6..8, 2),
-            stand(2..2, 7..8, 1),
-            stand(2..2, 8..8, 0),
-            stand(2..2, 8..8, 0),
-            stand(2..2, 8..8, 0),
+        let handles = [
+            (0..2, 6..8, 4, Some(bits(5, 2))),
+            (1..2, 6..8, 3, Some(bits(3, 2))),
+            (2..2, 6..8, 2, Some(bits(6, 1))),
+            (2..2, 7..8, 1, Some(bits(7, 1))),
+            (2..2, 8..8, 0, None),
+            (2..2, 8..8, 0, None),
         ];
-        assert_eq!(walk.stands, stands);
+        assert_eq!(reserved.reserve_walk(4), Ok(walk(&handles)));
         assert_eq!(reserved.head().cursor, -2);
         // where no new number is taken the original's new range is 0 to 0
         let mut free = started(6, 2, &[5, 3, 0, 1, 4, 2], 6);
-        assert_eq!(free.reserve_walk(1).unwrap().stands[0], stand(5..6, 0..0, 1));
+        let first = Stand { positions: 5..6, fresh: 0..0, len: 1 };
+        assert_eq!(free.reserve_walk(1).unwrap().stands[0], first);
         assert_eq!(free.reserve_walk(16), Err(No::Outside(4)));
 
         let mut many = started(5, 2, &[4, 1, 3], 3);
-        let walk = many.alloc_many_walk(4, 1, 10).unwrap();
-        assert_eq!(walk.given, [Some(4), Some(1), Some(3), Some(5), None, None]);
-        let stands = [
-            stand(0..3, 5..6, 4),
-            stand(1..3, 5..6, 3),
-            stand(2..3, 5..6, 2),
-            stand(3..3, 5..6, 1),
-            stand(3..3, 6..6, 0),
-            stand(3..3, 6..6, 0),
-            stand(3..3, 6..6, 0),
+        let numbers = [
+            (0..3, 5..6, 4, Some(4)),
+            (1..3, 5..6, 3, Some(1)),
+            (2..3, 5..6, 2, Some(3)),
+            (3..3, 5..6, 1, Some(5)),
+            (3..3, 6..6, 0, None),
+            (3..3, 6..6, 0, None),
         ];
-        assert_eq!(walk.stands, stands);
+        assert_eq!(many.alloc_many_walk(4, 1, 10), Ok(walk(&numbers)));
         assert_eq!(many.head(), Head { used: 6, pending: 0, cursor: 0, live: 6 });
     }
 

@@ -311,6 +311,12 @@ fn check<T: std::fmt::Debug>(t: &Tables, before: &Tables, got: &Answer<T>, expec
     expected.is_none()
 }
 
+/// That many bytes, now and then one more.
+fn mostly_right(rng: &mut Rng, length: usize) -> Vec<u8> {
+    let more = usize::from(rng.one_in(20));
+    rng.bytes(length + more)
+}
+
 fn step(t: &mut Tables, m: &mut Model, rng: &mut Rng, granted: &mut BTreeMap<&'static str, usize>) {
     let before = t.clone();
     let archetypes = m.sets.len() as u64;
@@ -334,10 +340,8 @@ fn step(t: &mut Tables, m: &mut Model, rng: &mut Rng, granted: &mut BTreeMap<&'s
 
     match rng.below(20) {
         0..=4 => {
-            let mut width = row_width(&t.declaration, archetype);
-            width += usize::from(rng.one_in(20));
-            let bytes = rng.bytes(width);
-            let expected = m.spawn_refusal(archetype, width);
+            let bytes = mostly_right(rng, row_width(&t.declaration, archetype));
+            let expected = m.spawn_refusal(archetype, bytes.len());
             let got = store::spawn(t, archetype, &bytes);
             if check(t, &before, &got, expected) {
                 grant("spawn");
@@ -347,10 +351,8 @@ fn step(t: &mut Tables, m: &mut Model, rng: &mut Rng, granted: &mut BTreeMap<&'s
             }
         }
         5 => {
-            let mut width = row_width(&t.declaration, archetype);
-            width += usize::from(rng.one_in(20));
-            let bytes = rng.bytes(width);
-            let expected = m.spawn_at_refusal(bits, archetype, width);
+            let bytes = mostly_right(rng, row_width(&t.declaration, archetype));
+            let expected = m.spawn_at_refusal(bits, archetype, bytes.len());
             let got = store::spawn_at(t, bits, archetype, &bytes);
             if check(t, &before, &got, expected) {
                 grant("spawn_at");
@@ -369,10 +371,8 @@ fn step(t: &mut Tables, m: &mut Model, rng: &mut Rng, granted: &mut BTreeMap<&'s
             }
         }
         8 | 9 => {
-            let mut size = m.sizes.get(&type_number).copied().unwrap_or(3);
-            size += usize::from(rng.one_in(20));
-            let bytes = rng.bytes(size);
-            let expected = m.insert_refusal(bits, type_number, size);
+            let bytes = mostly_right(rng, m.sizes.get(&type_number).copied().unwrap_or(3));
+            let expected = m.insert_refusal(bits, type_number, bytes.len());
             let got = store::insert(t, bits, type_number, &bytes);
             if check(t, &before, &got, expected) {
                 grant("insert");
@@ -388,10 +388,8 @@ fn step(t: &mut Tables, m: &mut Model, rng: &mut Rng, granted: &mut BTreeMap<&'s
             }
         }
         11 => {
-            let mut size = m.sizes.get(&type_number).copied().unwrap_or(3);
-            size += usize::from(rng.one_in(20));
-            let bytes = rng.bytes(size);
-            let expected = if m.wrong_size(type_number, size) {
+            let bytes = mostly_right(rng, m.sizes.get(&type_number).copied().unwrap_or(3));
+            let expected = if m.wrong_size(type_number, bytes.len()) {
                 Some(13)
             } else {
                 match m.access(bits, type_number) {

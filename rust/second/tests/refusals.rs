@@ -40,13 +40,15 @@ type Call = fn(&mut Tables, &mut Args) -> Answer<()>;
 type Change = fn(&mut Tables, &mut Args);
 
 fn ladder(call: Call, start: Change, rungs: &[(u32, Change)]) {
-    ladder_to(call, start, rungs, Ok(()));
+    ladder_to(call, &[start], rungs, Ok(()));
 }
 
-fn ladder_to(call: Call, start: Change, rungs: &[(u32, Change)], last: Answer<()>) {
+fn ladder_to(call: Call, starts: &[Change], rungs: &[(u32, Change)], last: Answer<()>) {
     let mut t = small();
     let mut a = args();
-    start(&mut t, &mut a);
+    for start in starts {
+        start(&mut t, &mut a);
+    }
     for (k, (number, repair)) in rungs.iter().enumerate() {
         let (t0, a0) = (t.clone(), a.clone());
         assert_eq!(call(&mut t, &mut a), Err(*number), "rung {k}");
@@ -58,7 +60,7 @@ fn ladder_to(call: Call, start: Change, rungs: &[(u32, Change)], last: Answer<()
 
 // Causes at a call's entry and their repairs, on `small()`.
 
-fn ids_entry(t: &mut Tables) {
+fn ids_entry(t: &mut Tables, _: &mut Args) {
     t.generations.resize(4097, 1); // 12
     t.indices.push(0); // 13
     t.head.live = 99; // 1
@@ -72,7 +74,7 @@ fn ids_13(t: &mut Tables, _: &mut Args) {
 fn head_1(t: &mut Tables, _: &mut Args) {
     t.head.live = t.head.used - t.head.pending;
 }
-fn columns_entry(t: &mut Tables) {
+fn columns_entry(t: &mut Tables, _: &mut Args) {
     t.declaration.sizes[0] = 65; // 12
     t.bytes.push(0); // 13
     t.row_counts[3] = 4; // 1
@@ -86,7 +88,7 @@ fn columns_13(t: &mut Tables, _: &mut Args) {
 fn columns_1(t: &mut Tables, _: &mut Args) {
     t.row_counts[3] = 0;
 }
-fn store_entry(t: &mut Tables) {
+fn store_entry(t: &mut Tables, _: &mut Args) {
     t.declaration.sizes[0] = 65; // 12
     t.generations.resize(4097, 1); // 12
     t.words.push(0); // 13
@@ -100,13 +102,46 @@ fn store_13(t: &mut Tables, _: &mut Args) {
     t.words.pop();
 }
 
+/// The tests at the entry of every call that is lent the same tables: what
+/// breaks them all, and the rungs that mend them one by one.
+struct Entry {
+    broken: Change,
+    rungs: &'static [(u32, Change)],
+}
+
+const IDS: Entry = Entry { broken: ids_entry, rungs: &[(12, ids_12), (13, ids_13), (1, head_1)] };
+
+const COLUMNS: Entry =
+    Entry { broken: columns_entry, rungs: &[(12, columns_12), (13, columns_13), (1, columns_1)] };
+
+const STORE: Entry = Entry {
+    broken: store_entry,
+    rungs: &[(12, store_12a), (12, ids_12), (13, store_13), (1, head_1), (1, columns_1)],
+};
+
+impl Entry {
+    /// A ladder of the entry's rungs, then more. What `start` breaks comes on
+    /// top of what the entry does.
+    fn ladder(&self, call: Call, start: Change, more: &[(u32, Change)]) {
+        self.ladder_to(call, start, more, Ok(()));
+    }
+
+    fn ladder_to(&self, call: Call, start: Change, more: &[(u32, Change)], last: Answer<()>) {
+        let rungs = [self.rungs, more].concat();
+        ladder_to(call, &[self.broken, start], &rungs, last);
+    }
+}
+
+/// The start of a ladder where no more is broken than the entry.
+fn entry_alone(_: &mut Tables, _: &mut Args) {}
+
 // ------------------------------------------------------------------- ids --
 
 #[test]
 fn ids_reserve_entity() {
     ladder(
         |t, _| ids::reserve_entity(t).map(|_| ()),
-        |t, _| ids_entry(t),
+        ids_entry,
         &[
             (12, ids_12),
             (13, ids_13),
@@ -133,7 +168,7 @@ fn ids_reserve_entities() {
     ladder(
         |t, a| ids::reserve_entities(t, a.n, &mut a.handles),
         |t, a| {
-            ids_entry(t);
+            ids_entry(t, a);
             a.n = 9;
             t.generations[4] = 0;
         },
@@ -150,17 +185,13 @@ fn ids_reserve_entities() {
 
 #[test]
 fn ids_alloc() {
-    ladder(
+    IDS.ladder(
         |t, a| ids::alloc(t, a.place).map(|_| ()),
         |t, a| {
-            ids_entry(t);
             t.head.cursor = 0;
             a.place.index = MAX;
         },
         &[
-            (12, ids_12),
-            (13, ids_13),
-            (1, head_1),
             (3, |t, _| head(t, 8, 0, 0)),
             (6, |_, a| a.place = at(99, MAX - 1)), // ids take any archetype
             (4, |t, _| {
@@ -174,19 +205,15 @@ fn ids_alloc() {
 
 #[test]
 fn ids_alloc_many() {
-    ladder(
+    IDS.ladder(
         |t, a| ids::alloc_many(t, a.n, a.archetype, a.place.index).map(|_| ()),
         |t, a| {
-            ids_entry(t);
             t.head.cursor = 0;
             t.indices[4] = 0;
             a.n = 4;
             a.place.index = MAX - 3;
         },
         &[
-            (12, ids_12),
-            (13, ids_13),
-            (1, head_1),
             (3, |t, _| t.head.cursor = 1),
             (6, |_, a| a.place.index = MAX - 4),
             (4, |_, a| a.n = 3),
@@ -202,18 +229,14 @@ fn ids_alloc_many() {
 
 #[test]
 fn ids_alloc_at() {
-    ladder(
+    IDS.ladder(
         |t, a| ids::alloc_at(t, a.bits, a.place).map(|_| ()),
         |t, a| {
-            ids_entry(t);
             t.head.cursor = 0;
             a.place.index = MAX;
             a.bits = 8;
         },
         &[
-            (12, ids_12),
-            (13, ids_13),
-            (1, head_1),
             (5, |_, a| a.bits = v(8, 1)),
             (3, |t, _| t.head.cursor = 1),
             (6, |_, a| a.place.index = 5),
@@ -246,17 +269,13 @@ fn ids_alloc_at() {
 
 #[test]
 fn ids_free() {
-    ladder(
+    IDS.ladder(
         |t, a| ids::free(t, a.bits).map(|_| ()),
         |t, a| {
-            ids_entry(t);
             t.head.cursor = 0;
             a.bits = 0;
         },
         &[
-            (12, ids_12),
-            (13, ids_13),
-            (1, head_1),
             (5, |_, a| a.bits = v(4, 2)),
             (3, |t, _| t.head.cursor = 1),
             (2, |_, a| a.bits = v(6, 1)), // free, then beyond used
@@ -273,45 +292,24 @@ fn ids_free() {
 
 #[test]
 fn ids_contains_get_set_place() {
-    ladder(
+    IDS.ladder(
         |t, a| ids::contains(t, a.bits).map(|_| ()),
-        |t, a| {
-            ids_entry(t);
-            a.bits = 0;
-        },
-        &[
-            (12, ids_12),
-            (13, ids_13),
-            (1, head_1),
-            (5, |_, a| a.bits = v(0, 7)),
-        ],
+        |_, a| a.bits = 0,
+        &[(5, |_, a| a.bits = v(0, 7))],
     );
-    ladder(
+    IDS.ladder(
         |t, a| ids::get(t, a.bits).map(|_| ()),
-        |t, a| {
-            ids_entry(t);
-            a.bits = 0;
-        },
-        &[
-            (12, ids_12),
-            (13, ids_13),
-            (1, head_1),
-            (5, |_, a| a.bits = v(0, 7)),
-            (2, |_, a| a.bits = v(0, 1)),
-        ],
+        |_, a| a.bits = 0,
+        &[(5, |_, a| a.bits = v(0, 7)), (2, |_, a| a.bits = v(0, 1))],
     );
-    ladder(
+    IDS.ladder(
         |t, a| ids::set_place(t, a.bits, a.place),
         |t, a| {
-            ids_entry(t);
             t.head.cursor = -1; // R19: works on unflushed tables
             a.bits = 0;
             a.place.index = MAX;
         },
         &[
-            (12, ids_12),
-            (13, ids_13),
-            (1, head_1),
             (5, |_, a| a.bits = v(6, 1)),
             (6, |_, a| a.place.index = 12),
             (2, |_, a| a.bits = v(0, 1)),
@@ -326,16 +324,10 @@ fn ids_contains_get_set_place() {
 
 #[test]
 fn ids_resolve() {
-    ladder(
+    IDS.ladder(
         |t, a| ids::resolve_unknown_gen(t, a.number).map(|_| ()),
-        |t, a| {
-            ids_entry(t);
-            a.number = 6;
-        },
+        |_, a| a.number = 6,
         &[
-            (12, ids_12),
-            (13, ids_13),
-            (1, head_1),
             (2, |_, a| a.number = MAX),
             (2, |t, a| {
                 a.number = 2;
@@ -356,22 +348,15 @@ fn ids_resolve() {
 
 #[test]
 fn ids_flush() {
-    ladder(
+    IDS.ladder(
         |t, a| ids::flush(t, a.archetype, a.place.index),
         |t, a| {
-            ids_entry(t);
             t.head.cursor = -2;
             t.generations[4] = 0;
             a.archetype = 1000;
             a.place.index = MAX - 2;
         },
-        &[
-            (12, ids_12),
-            (13, ids_13),
-            (1, head_1),
-            (6, |_, a| a.place.index = MAX - 3),
-            (1, |t, _| t.generations[4] = 2),
-        ],
+        &[(6, |_, a| a.place.index = MAX - 3), (1, |t, _| t.generations[4] = 2)],
     );
     // R9: a flush of nothing takes any first row.
     let mut t = small();
@@ -395,13 +380,12 @@ fn ids_flush() {
 
 #[test]
 fn ids_len_clear_freelist() {
-    let rungs: &[(u32, Change)] = &[(12, ids_12), (13, ids_13), (1, head_1)];
-    ladder(|t, _| ids::len(t).map(|_| ()), |t, _| ids_entry(t), rungs);
-    ladder(|t, _| ids::clear(t), |t, _| ids_entry(t), rungs);
+    IDS.ladder(|t, _| ids::len(t).map(|_| ()), entry_alone, &[]);
+    IDS.ladder(|t, _| ids::clear(t), entry_alone, &[]);
     ladder(
         |t, a| ids::freelist(t, &mut a.handles).map(|_| ()),
         |t, a| {
-            ids_entry(t);
+            ids_entry(t, a);
             a.handles.clear();
             t.generations[4] = 0;
         },
@@ -543,44 +527,35 @@ fn lengths_wrong_in_each_way() {
 
 #[test]
 fn columns_allocate_remove_ids() {
-    let entry: &[(u32, Change)] = &[(12, columns_12), (13, columns_13), (1, columns_1)];
-    let with = |more: &[(u32, Change)]| [entry, more].concat();
-    ladder(
+    COLUMNS.ladder(
         |t, a| columns::allocate(t, a.archetype, a.number).map(|_| ()),
-        |t, a| {
-            columns_entry(t);
+        |_, a| {
             a.archetype = 5;
             a.number = MAX;
         },
-        &with(&[
+        &[
             (6, |t, a| {
                 a.archetype = 1;
                 t.row_counts[1] = 4;
             }),
             (4, |t, _| t.row_counts[1] = 3),
-        ]),
+        ],
     );
-    ladder(
+    COLUMNS.ladder(
         |t, a| columns::remove(t, a.archetype, a.row).map(|_| ()),
-        |t, a| {
-            columns_entry(t);
-            a.archetype = 5;
-        },
-        &with(&[
+        |_, a| a.archetype = 5,
+        &[
             (6, |_, a| {
                 a.archetype = 1;
                 a.row = 3; // the row count itself: R33
             }),
             (6, |_, a| a.row = 2),
-        ]),
+        ],
     );
-    ladder(
+    COLUMNS.ladder(
         |t, a| columns::ids(t, a.archetype).map(|_| ()),
-        |t, a| {
-            columns_entry(t);
-            a.archetype = 5;
-        },
-        &with(&[(6, |_, a| a.archetype = 4)]),
+        |_, a| a.archetype = 5,
+        &[(6, |_, a| a.archetype = 4)],
     );
     assert_eq!(columns::ids_part(&small(), 5), []);
 }
@@ -590,7 +565,7 @@ fn columns_move_out() {
     ladder(
         |t, a| columns::move_out(t, a.archetype, a.row, &mut a.bytes).map(|_| ()),
         |t, a| {
-            columns_entry(t);
+            columns_entry(t, a);
             a.bytes.push(0);
             a.row = 3;
         },
@@ -618,7 +593,7 @@ fn columns_put_get() {
     ladder(
         |t, a| columns::put(t, a.archetype, a.row, a.type_number, &a.bytes),
         |t, a| {
-            columns_entry(t);
+            columns_entry(t, a);
             a.type_number = 20; // declared, but not in archetype 1
             a.row = 3;
         },
@@ -646,22 +621,14 @@ fn columns_put_get() {
             }),
         ],
     );
-    ladder(
+    COLUMNS.ladder(
         |t, a| columns::get(t, a.archetype, a.row, a.type_number).map(|_| ()),
-        |t, a| {
-            columns_entry(t);
+        |_, a| {
             a.archetype = 5;
             a.type_number = 20;
             a.row = 3;
         },
-        &[
-            (12, columns_12),
-            (13, columns_13),
-            (1, columns_1),
-            (6, |_, a| a.archetype = 1),
-            (6, |_, a| a.row = 2),
-            (15, |_, a| a.type_number = 10),
-        ],
+        &[(6, |_, a| a.archetype = 1), (6, |_, a| a.row = 2), (15, |_, a| a.type_number = 10)],
     );
     let t = small();
     assert_eq!(columns::get(&t, 1, 2, 10), Ok((8, 4)));
@@ -672,25 +639,11 @@ fn columns_put_get() {
 
 // ----------------------------------------------------------------- store --
 
-/// The rungs of every store call's entry, then more. `store_entry` breaks.
-fn store_ladder(call: Call, start: Change, more: &[(u32, Change)]) {
-    ladder(call, start, &[STORE_ENTRY, more].concat());
-}
-
-const STORE_ENTRY: &[(u32, Change)] = &[
-    (12, store_12a),
-    (12, ids_12),
-    (13, store_13),
-    (1, head_1),
-    (1, columns_1),
-];
-
 #[test]
 fn store_spawn() {
-    store_ladder(
+    STORE.ladder(
         |t, a| store::spawn(t, a.archetype, &a.bytes).map(|_| ()),
         |t, a| {
-            store_entry(t);
             t.head.cursor = 0;
             t.words[3] = 1;
             t.row_counts[1] = 4;
@@ -715,10 +668,9 @@ fn store_spawn() {
 
 #[test]
 fn store_spawn_at() {
-    store_ladder(
+    STORE.ladder(
         |t, a| store::spawn_at(t, a.bits, a.archetype, &a.bytes),
         |t, a| {
-            store_entry(t);
             t.head.cursor = 0;
             t.words[3] = 1 << 63;
             a.bits = 0;
@@ -787,10 +739,9 @@ fn store_spawn_at_room_of_the_old_row() {
 
 #[test]
 fn store_despawn() {
-    store_ladder(
+    STORE.ladder(
         |t, a| store::despawn(t, a.bits),
         |t, a| {
-            store_entry(t);
             t.head.cursor = 0;
             t.words[0] = 1;
             a.bits = 0;
@@ -829,10 +780,9 @@ fn store_despawn() {
 
 #[test]
 fn store_insert() {
-    store_ladder(
+    STORE.ladder(
         |t, a| store::insert(t, a.bits, a.type_number, &a.bytes),
         |t, a| {
-            store_entry(t);
             t.head.cursor = 0;
             t.words[3] = 5;
             t.row_counts[2] = 4;
@@ -873,10 +823,9 @@ fn store_insert() {
 
 #[test]
 fn store_remove() {
-    store_ladder(
+    STORE.ladder(
         |t, a| store::remove(t, a.bits, a.type_number),
         |t, a| {
-            store_entry(t);
             t.head.cursor = 0;
             t.words[3] = 5;
             t.row_counts[0] = 8;
@@ -909,10 +858,9 @@ fn store_remove() {
 
 #[test]
 fn store_read_write() {
-    store_ladder(
+    STORE.ladder(
         |t, a| store::read(t, a.bits, a.type_number).map(|_| ()),
         |t, a| {
-            store_entry(t);
             t.head.cursor = -1; // R21: 3 is not tested
             t.words[0] = u64::MAX;
             a.bits = 0;
@@ -930,10 +878,9 @@ fn store_read_write() {
             (7, |t, _| t.words[0] = u64::MAX >> 1), // R21: no 9, and other words are not looked at
         ],
     );
-    store_ladder(
+    STORE.ladder(
         |t, a| store::write(t, a.bits, a.type_number, &a.bytes),
         |t, a| {
-            store_entry(t);
             t.head.cursor = -1;
             t.words[0] = 1;
             t.words[4] = 1;
@@ -992,14 +939,13 @@ fn store_borrow_and_release() {
         ),
     ];
     for (call, refused, before, after) in cases {
-        ladder_to(
+        STORE.ladder_to(
             *call,
             |t, a| {
-                store_entry(t);
                 t.words[0] = 1;
                 a.archetype = 5;
             },
-            STORE_ENTRY,
+            &[],
             Err(6),
         );
         let mut t = small();
@@ -1027,10 +973,9 @@ fn store_borrow_and_release() {
 
 #[test]
 fn store_reserve() {
-    store_ladder(
+    STORE.ladder(
         |t, _| store::reserve_entity(t).map(|_| ()),
         |t, _| {
-            store_entry(t);
             t.words[0] = 1; // R18: no words are looked at
             t.row_counts[0] = 8; // and no rows
         },
@@ -1051,10 +996,9 @@ fn store_reserve() {
             (1, |t, _| t.generations[4] = 2),
         ],
     );
-    store_ladder(
+    STORE.ladder(
         |t, a| store::reserve_entities(t, a.n, &mut a.handles),
         |t, a| {
-            store_entry(t);
             t.words[0] = 1;
             t.row_counts[0] = 8;
             t.generations[4] = 0;
@@ -1076,10 +1020,9 @@ fn store_reserve() {
 
 #[test]
 fn store_flush_and_clear() {
-    store_ladder(
+    STORE.ladder(
         |t, _| store::flush(t),
         |t, _| {
-            store_entry(t);
             t.head.cursor = -2;
             t.words[5] = 1;
             t.row_counts[0] = 6;
@@ -1095,10 +1038,9 @@ fn store_flush_and_clear() {
     let mut t = small();
     t.words[0] = 1;
     assert_eq!(store::flush(&mut t), Err(8));
-    store_ladder(
+    STORE.ladder(
         |t, _| store::clear(t),
         |t, _| {
-            store_entry(t);
             t.head.cursor = -2;
             t.words[5] = 1;
         },
@@ -1114,20 +1056,14 @@ fn store_flush_and_clear() {
 
 #[test]
 fn store_lookups() {
-    store_ladder(
+    STORE.ladder(
         |t, a| store::contains(t, a.bits).map(|_| ()),
-        |t, a| {
-            store_entry(t);
-            a.bits = 7;
-        },
+        |_, a| a.bits = 7,
         &[(5, |_, a| a.bits = v(7, 7))],
     );
-    store_ladder(
+    STORE.ladder(
         |t, a| store::get(t, a.bits).map(|_| ()),
-        |t, a| {
-            store_entry(t);
-            a.bits = 7;
-        },
+        |_, a| a.bits = 7,
         &[
             (5, |_, a| a.bits = v(7, 7)),
             (2, |t, a| {
@@ -1137,12 +1073,9 @@ fn store_lookups() {
             (1, |t, _| t.archetypes[0] = 1),
         ],
     );
-    store_ladder(
+    STORE.ladder(
         |t, a| store::resolve(t, a.number).map(|_| ()),
-        |t, a| {
-            store_entry(t);
-            a.number = 6;
-        },
+        |_, a| a.number = 6,
         &[
             (2, |t, a| {
                 a.number = 4;
@@ -1151,11 +1084,10 @@ fn store_lookups() {
             (1, |t, _| t.generations[4] = 2),
         ],
     );
-    store_ladder(|t, _| store::len(t).map(|_| ()), |t, _| store_entry(t), &[]);
-    store_ladder(
+    STORE.ladder(|t, _| store::len(t).map(|_| ()), entry_alone, &[]);
+    STORE.ladder(
         |t, a| store::freelist(t, &mut a.handles).map(|_| ()),
         |t, a| {
-            store_entry(t);
             t.pending[0] = 7;
             a.handles.truncate(1);
         },

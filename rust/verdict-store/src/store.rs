@@ -66,6 +66,17 @@ macro_rules! shown {
     };
 }
 
+/// Runs a call that is lent the declaration and the columns alone, and changes none of them.
+macro_rules! columns_shown {
+    ($store:ident, $call:ident $(, $own:expr)*) => {
+        granted(sys::$call(
+            &$store.rows, &$store.widths, &$store.types, &$store.sizes,
+            &$store.numbers, &$store.counts, &$store.bytes
+            $(, $own)*
+        ))
+    };
+}
+
 fn granted(said: u32) -> Result<(), Refusal> {
     match said {
         0 => Ok(()),
@@ -279,17 +290,7 @@ impl VerdictStore {
     /// Where an archetype's numbers stand.
     fn rows_of(&self, archetype: u32) -> Result<Range<usize>, Refusal> {
         let mut out = [0; 4];
-        granted(sys::verdict_columns_ids(
-            &self.rows,
-            &self.widths,
-            &self.types,
-            &self.sizes,
-            &self.numbers,
-            &self.counts,
-            &self.bytes,
-            archetype,
-            &mut out,
-        ))?;
+        columns_shown!(self, verdict_columns_ids, archetype, &mut out)?;
         let (start, count) = (out[0] as usize, out[1] as usize);
         Ok(start..start + count)
     }
@@ -301,19 +302,7 @@ impl VerdictStore {
             return Ok(Part { start: 0, size: 0, rows });
         }
         let mut out = [0; 4];
-        granted(sys::verdict_columns_get(
-            &self.rows,
-            &self.widths,
-            &self.types,
-            &self.sizes,
-            &self.numbers,
-            &self.counts,
-            &self.bytes,
-            archetype,
-            0,
-            kind,
-            &mut out,
-        ))?;
+        columns_shown!(self, verdict_columns_get, archetype, 0, kind, &mut out)?;
         Ok(Part { start: out[0] as usize, size: out[1] as usize, rows })
     }
 

@@ -58,13 +58,8 @@ fn declared(random: &mut Random) -> (u32, Vec<(u32, Vec<Column>)>) {
     (random.below(17) as u32, archetypes)
 }
 
-fn made(random: &mut Random) -> Both {
-    let (capacity, archetypes) = declared(random);
-    let mut builder = Declaration::new(capacity).rows_without_components(archetypes[0].0);
-    for (rows, columns) in &archetypes[1..] {
-        // In any order: the builder puts them in theirs.
-        builder = builder.archetype(*rows, columns.iter().rev().copied());
-    }
+/// The second program's empty tables for this declaration.
+fn tables(capacity: u32, archetypes: &[(u32, Vec<Column>)]) -> Tables {
     let columns = || archetypes.iter().flat_map(|(_, columns)| columns);
     let declaration = second::Declaration {
         rows: archetypes.iter().map(|(rows, _)| *rows).collect(),
@@ -72,9 +67,19 @@ fn made(random: &mut Random) -> Both {
         types: columns().map(|column| column.kind).collect(),
         sizes: columns().map(|column| column.size).collect(),
     };
+    second::fresh(declaration, capacity as usize)
+}
+
+fn made(random: &mut Random) -> Both {
+    let (capacity, archetypes) = declared(random);
+    let mut builder = Declaration::new(capacity).rows_without_components(archetypes[0].0);
+    for (rows, columns) in &archetypes[1..] {
+        // In any order: the builder puts them in theirs.
+        builder = builder.archetype(*rows, columns.iter().rev().copied());
+    }
     Both {
         ours: builder.build().unwrap(),
-        theirs: second::fresh(declaration, capacity as usize),
+        theirs: tables(capacity, &archetypes),
         archetypes: archetypes.into_iter().map(|(_, columns)| columns).collect(),
         known: vec![Entity::DANGLING, Entity::new(0, 1).unwrap(), Entity::new(3, 7).unwrap()],
     }
@@ -291,15 +296,7 @@ fn the_builder_allows_what_the_second_program_allows() {
         for (rows, columns) in &archetypes[1..] {
             builder = builder.archetype(*rows, columns.iter().copied());
         }
-        let columns = || archetypes.iter().flat_map(|(_, columns)| columns);
-        let declaration = second::Declaration {
-            rows: archetypes.iter().map(|(rows, _)| *rows).collect(),
-            widths: archetypes.iter().map(|(_, columns)| columns.len() as u32).collect(),
-            types: columns().map(|column| column.kind).collect(),
-            sizes: columns().map(|column| column.size).collect(),
-        };
-        let tables = second::fresh(declaration, capacity as usize);
-        let rule = store::len(&tables);
+        let rule = store::len(&tables(capacity, &archetypes));
         assert_eq!(builder.check().is_ok(), rule.is_ok(), "{builder:?} {rule:?}");
         if rule.is_ok() {
             assert_eq!(builder.build().unwrap().len(), 0);

@@ -87,3 +87,13 @@ pub(crate) fn reading(
     let start = (left.as_ptr() as usize - e.pending.as_ptr() as usize) / size_of::<u32>();
     (start..start + left.len(), reader.id_range.clone())
 }
+
+/// Number 0 free at generation 2, as one alloc and one free leave it: several tests start there.
+#[cfg(test)]
+pub(crate) fn one_freed() -> Entities {
+    let mut e = Entities::default();
+    let first = e.alloc();
+    e.meta[0].location = Location { archetype: 1, index: 0 };
+    e.free(first).unwrap();
+    e
+}
