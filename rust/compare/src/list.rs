@@ -12,9 +12,9 @@
 use crate::ours::{Apart, Exchange, CALLS};
 use crate::tables::{above_limit, damage_within, sound_of};
 use crate::{columns, ids, store};
-use oracle::calls::{ColumnCall, IdCall, Original, Player, WordCall};
+use oracle::calls::{compared, ColumnCall, IdCall, Original, Player, WordCall};
 use oracle::sequences::{column_call, column_tables, id_call, id_tables, some_word, Rng, WORDS};
-use oracle::{bits, place, ColumnTables, Columns, IdTables, Ids, No, Place, NOWHERE};
+use oracle::{bits, place, ColumnTables, Columns, IdTables, Ids, Place, NOWHERE};
 use std::collections::{BTreeMap, BTreeSet};
 use std::fmt::Write as _;
 
@@ -68,7 +68,7 @@ const STORE: &[(&str, usize, Lent)] = &[
     ("words", 9, Whole),
 ];
 
-const PROGRAMS: [Program; 7] = [
+const PROGRAMS: [Program; 5] = [
     Program {
         name: "replay_ids",
         tables: IDS,
@@ -122,36 +122,30 @@ const PROGRAMS: [Program; 7] = [
             "verdict_store_resolve_unknown_gen",
             "verdict_store_len",
             "verdict_store_read",
-            "verdict_store_write",
             "verdict_store_borrow",
             "verdict_store_borrow_mut",
             "verdict_store_release",
             "verdict_store_release_mut",
-        ],
-    },
-    Program {
-        name: "replay_reserve",
-        tables: STORE,
-        calls: &[
             "verdict_store_reserve_entity",
             "verdict_store_reserve_entities",
             "verdict_store_freelist",
         ],
     },
     Program {
-        name: "replay_components",
+        name: "replay_moves",
         tables: STORE,
-        calls: &["verdict_store_insert", "verdict_store_remove"],
+        calls: &[
+            "verdict_store_insert",
+            "verdict_store_remove",
+            "verdict_store_write",
+            "verdict_store_flush",
+            "verdict_store_clear",
+        ],
     },
     Program {
         name: "replay_spawn",
         tables: STORE,
-        calls: &["verdict_store_spawn", "verdict_store_spawn_at"],
-    },
-    Program {
-        name: "replay_despawn",
-        tables: STORE,
-        calls: &["verdict_store_despawn", "verdict_store_flush", "verdict_store_clear"],
+        calls: &["verdict_store_spawn", "verdict_store_spawn_at", "verdict_store_despawn"],
     },
 ];
 
@@ -371,12 +365,7 @@ impl List {
 
     fn id(&mut self, ids: &mut Ids, call: IdCall) {
         let before = ids.tables();
-        let (code, values) = match ids.call(&call) {
-            Ok(values) => (0, values),
-            Err(No::Refused(number)) => (number, Vec::new()),
-            Err(No::Outside(_)) => return,
-            Err(No::Panicked(words)) => panic!("the original panicked on {call:?}: {words}"),
-        };
+        let Ok((code, values)) = compared(ids.call(&call), &call) else { return };
         let after = ids.tables();
         self.call(&ids::exchange(&call, &before, &after, code, &values));
         if let (IdCall::AllocMany(..), 0) = (call, code) {
@@ -386,12 +375,7 @@ impl List {
 
     fn column(&mut self, columns: &mut Columns, call: ColumnCall) {
         let before = columns.tables();
-        let (code, values) = match columns.call(&call) {
-            Ok(values) => (0, values),
-            Err(No::Refused(number)) => (number, Vec::new()),
-            Err(No::Outside(_)) => return,
-            Err(No::Panicked(words)) => panic!("the original panicked on {call:?}: {words}"),
-        };
+        let Ok((code, values)) = compared(columns.call(&call), &call) else { return };
         let d = columns.declaration().clone();
         self.call(&columns::exchange(&call, &d, &before, &columns.tables(), code, &values));
     }
@@ -625,8 +609,7 @@ pub fn write(seed: u64) -> Vec<Written> {
             "replay_columns" => of_columns(&mut rng),
             name => {
                 let mut list = List::new(name);
-                let enough = if name == "replay_reserve" { 500 } else { 800 };
-                of_second(&mut list, &mut rng, enough);
+                of_second(&mut list, &mut rng, 800);
                 list
             }
         }
