@@ -2,7 +2,7 @@
 //!
 //! `comments`: where a comment of the crate and its code say different things.
 //! `intended`: where document 01 means to differ from the code.
-//! docs/findings.md lists them all.
+//! docs/DIFFERENCES.md lists them all.
 
 use crate::archetype::{open as rows, Archetype, TypeIdHasher, TypeInfo};
 use crate::entities::{open, Entities, Entity, Location, NoSuchEntity};
