@@ -164,6 +164,12 @@ rises xs e i (suc j) l h =
 pub rises-to : (xs : List ℕ) → rising xs ≡ true → (i j : ℕ) → i ≤ j → j < length xs → getD xs i 0 ≤ getD xs j 0
 rises-to xs e i j l h = ⊎-elim (λ q. rw q (omega arith)) (λ k. omega (arith, rises xs e i j k h)) (eq-or-lt-of-le l)
 
+-- a number in ascending numbers stands at one place
+pub one-place : (xs : List ℕ) → rising xs ≡ true → (i j : ℕ) → i < length xs → j < length xs → getD xs i 0 ≡ getD xs j 0 → i ≡ j
+one-place xs r i j h k e =
+    ⊎-elim (λ (l : i < j). omega (arith, rises xs r i j l k))
+    (λ (l : j ≤ i). ⊎-elim (λ m. sym m) (λ m. omega (arith, rises xs r j i m h)) (eq-or-lt-of-le l)) (below-or-not i j)
+
 -- The same list.
 pub same-true : (xs ys : List ℕ) → same xs ys ≡ true → xs ≡ ys
 unfolding same
