@@ -1,12 +1,11 @@
 -- The two loops: row counts against rows, and the columns of a type.
 -- Assumes nothing.
 use Prim.{tt}
-use Prim.Native.Nat.{ℕ, zero, suc, _+_, _≤_, _<_, min}
-use mathlib.Core.Bool.{Bool, true, false, not, or-false}
+use Prim.Native.Nat.{ℕ, _+_, _≤_, _<_, min}
+use mathlib.Core.Bool.{Bool, true, false, not}
 use mathlib.Core.List.{List, [], _∷_}
 use mathlib.Core.Logic.{⊎-elim}
 use mathlib.Core.Path.{_≡_, refl, sym, ap, _∙_}
-use native.Mathlib.Nat.{le-of-suc-le-suc, eq-or-lt-of-le}
 use native.Mathlib.Numerals.{add-one}
 use native.Mathlib.Omega.{arith}
 use borrow.Author.Tests.{lt-ltb, le-ltb, eq-eqb, ne-eqb}
@@ -15,15 +14,9 @@ use lib.ListN.{length, getD, drop, drop-of-length-le, List·getD-eq-default}
 use lib.Seq.{drop-cons}
 use Rattle.refusal.specs.Table.{granted, refused, passing}
 use Rattle.decl.specs.Lists.{anyBelow}
-use Rattle.decl.proofs.Lists.{below-or-not}
+use Rattle.decl.proofs.Lists.{below-or-not, any-within}
 use Rattle.column_entry.specs.Entry.{isOver, countRules, wrongSize}
 use Rattle.refusal.specs.Chain.{applies, onward, through}
-
--- beyond n there is none
-any-within : (p : ℕ → Bool) (n m : ℕ) → n ≤ m → ((b : ℕ) → n ≤ b → p b ≡ false) → anyBelow m p ≡ anyBelow n p
-unfolding anyBelow
-any-within p n zero h f = let e : n ≡ 0 = omega arith in rw e
-any-within p n (suc m) h f = ⊎-elim (λ e. rw e) (λ k. rw (f m (le-of-suc-le-suc k), any-within p n m (le-of-suc-le-suc k) f) (or-false (anyBelow n p))) (eq-or-lt-of-le h)
 
 -- row counts against rows: one that is there, and past the counts
 module _ (rows counts : List ℕ) (a : ℕ) where

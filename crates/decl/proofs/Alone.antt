@@ -5,7 +5,6 @@ use mathlib.Core.Bool.{true}
 use mathlib.Core.Path.{_≡_, refl, sym, ap, _∙_}
 use mathlib.Core.Logic.{⊎-elim}
 use mathlib.Core.List.{List, []}
-use native.Mathlib.Nat.{eq-or-lt-of-le}
 use native.Mathlib.Omega.{arith}
 use lib.ListN.{length, getD, take, drop}
 use lib.Seq.{take-all}
@@ -17,16 +16,10 @@ use Rattle.decl.specs.Steps.{Orderly, Plain, Ordered, Settled}
 use Rattle.decl.specs.declared.quick.Width.{Width}
 use Rattle.decl.specs.declared.quick.Width.the-variants.{Of}
 use Rattle.decl.specs.declared.quick.Glance.the-variants.{Clear}
-use Rattle.decl.proofs.Lists.{below-or-not, rising-all, rises, first-none, first-step, part-lent, part-length}
+use Rattle.decl.proofs.Lists.{rising-all, one-place, first-none, first-step, part-lent, part-length}
 use Rattle.decl.proofs.Glancing.{last-or-before}
 use Rattle.decl.proofs.Counting.{Counted, counted-start, counted-next, counted-shape, width-told}
 use Rattle.decl.proofs.Measuring.{settled}
-
--- a number in ascending numbers stands at one place
-one-place : (xs : List ℕ) → rising xs ≡ true → (p q : ℕ) → p < length xs → q < length xs → getD xs p 0 ≡ getD xs q 0 → p ≡ q
-one-place xs r p q h k e =
-    ⊎-elim (λ (l : p < q). omega (arith, rises xs r p q l k))
-    (λ (l : q ≤ p). ⊎-elim (λ m. sym m) (λ m. omega (arith, rises xs r q p m h)) (eq-or-lt-of-le l)) (below-or-not p q)
 
 -- an ordered list of sizes, once its width has been taken apart
 order-at : {types sizes : List ℕ} {width : ℕ} {r : Width} → Ordered types sizes r → r ≡ Of width → Orderly types sizes 0 (length types) width

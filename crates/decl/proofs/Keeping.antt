@@ -18,7 +18,7 @@ use Rattle.decl.specs.Lists.{sum, firstOf, rising, anyAbove, anyBelow, a
 use Rattle.decl.specs.Decl.{Decl, archetypes, widthOf, columns, firstColumn, typesOf, sizesOf, typeOf, sizeOf}
 use Rattle.decl.specs.Rules.{shapeRules, sameTypes, sizesDiffer, columnRules, declRules}
 use Rattle.decl.specs.Kept.{Shaped, Declared}
-use Rattle.decl.proofs.Lists.{false-true, and-left, and-right, below-or-not, any-at, pair-at, above-at, rising-end, rises, same-false, first-all, part-in-sum, part-length, part-at, part-in, part-lent, first-step, first-none, first-next}
+use Rattle.decl.proofs.Lists.{false-true, and-left, and-right, below-or-not, any-at, pair-at, above-at, rising-end, one-place, same-false, first-all, part-in-sum, part-length, part-at, part-in, part-lent, first-step, first-none, first-next}
 use Rattle.decl.proofs.Merge.{two-false}
 
 -- Rules that all have the number 12: any one of them that applies decides.
@@ -118,18 +118,12 @@ module _ (d : Decl) where
         (pair-at (sizesDiffer d) (archetypes d) e a b l m)
         j k (omega (arith, types-length a)) (omega (arith, types-length b)) q
 
-    one-place : (a j k : ℕ) → rising (typesOf d a) ≡ true → j < widthOf d a → k < widthOf d a → typeOf d a j ≡ typeOf d a k → j ≡ k
-    one-place a j k e h i q =
-        ⊎-elim (λ (l : j < k). omega (arith, rises (typesOf d a) e j k l (omega (arith, types-length a))))
-        (λ (l : k ≤ j). ⊎-elim (λ m. sym m) (λ m. omega (arith, rises (typesOf d a) e k j m (omega (arith, types-length a)))) (eq-or-lt-of-le l))
-        (below-or-not j k)
-
     one-for-all : anyPair (archetypes d) (sizesDiffer d) ≡ false → ((a : ℕ) → rising (typesOf d a) ≡ true)
         → (a b j k : ℕ) → a < archetypes d → b < archetypes d → j < widthOf d a → k < widthOf d b → typeOf d a j ≡ typeOf d b k → sizeOf d a j ≡ sizeOf d b k
     one-for-all e r a b j k h i m n q =
         ⊎-elim (λ l. sizes-agree e a b j k l i m n q)
         (λ l. ⊎-elim
-        (λ p. rw p (ap (λ (z : ℕ). sizeOf d a z) (one-place a j k (r a) m (rw p at n) (rw p at q))))
+        (λ p. rw p (ap (λ (z : ℕ). sizeOf d a z) (one-place (typesOf d a) (r a) j k (omega (arith, types-length a)) (omega (arith, types-length a, rw p at n)) (rw p at q))))
         (λ p. sym (sizes-agree e b a k j p h n m (sym q))) (eq-or-lt-of-le l))
         (below-or-not a b)
 

@@ -1,7 +1,7 @@
 -- Laws of the words that the rules use of lists, and of the numbers below a bound.
 -- Assumes nothing.
 use Prim.Native.Nat.{ℕ, zero, suc, _+_, _-_, _*_, _≤_, _<_}
-use mathlib.Core.Bool.{Bool, true, false, _&&_, _||_, or-true}
+use mathlib.Core.Bool.{Bool, true, false, _&&_, _||_, or-true, or-false}
 use mathlib.Core.Path.{_≡_, refl, sym, ap, _∙_}
 use mathlib.Core.Logic.{_⊎_, inl, inr, ⊎-elim}
 use mathlib.Core.List.{List, [], _∷_}
@@ -69,6 +69,13 @@ module _ (p : ℕ → Bool) where
   unfolding anyBelow
   any-false zero h = refl
   any-false (suc n) h = rw (any-false n (λ i l. h i (omega arith))) (h n (omega arith))
+
+  -- where none is from n on, those below n decide
+  pub any-within : (n m : ℕ) → n ≤ m → ((i : ℕ) → n ≤ i → p i ≡ false) → anyBelow m p ≡ anyBelow n p
+  unfolding anyBelow
+  any-within n zero h f = let e : n ≡ 0 = omega arith in rw e
+  any-within n (suc m) h f =
+      ⊎-elim (λ e. rw e) (λ k. rw (f m (le-of-suc-le-suc k), any-within n m (le-of-suc-le-suc k) f) (or-false (anyBelow n p))) (eq-or-lt-of-le h)
 
 pub pair-at : (p : ℕ → ℕ → Bool) (n : ℕ) → anyPair n p ≡ false → (a b : ℕ) → a < b → b < n → p a b ≡ false
 unfolding anyPair
@@ -156,6 +163,12 @@ rises xs e i (suc j) l h =
 
 pub rises-to : (xs : List ℕ) → rising xs ≡ true → (i j : ℕ) → i ≤ j → j < length xs → getD xs i 0 ≤ getD xs j 0
 rises-to xs e i j l h = ⊎-elim (λ q. rw q (omega arith)) (λ k. omega (arith, rises xs e i j k h)) (eq-or-lt-of-le l)
+
+-- a number in ascending numbers stands at one place
+pub one-place : (xs : List ℕ) → rising xs ≡ true → (i j : ℕ) → i < length xs → j < length xs → getD xs i 0 ≡ getD xs j 0 → i ≡ j
+one-place xs r i j h k e =
+    ⊎-elim (λ (l : i < j). omega (arith, rises xs r i j l k))
+    (λ (l : j ≤ i). ⊎-elim (λ m. sym m) (λ m. omega (arith, rises xs r j i m h)) (eq-or-lt-of-le l)) (below-or-not i j)
 
 -- The same list.
 pub same-true : (xs ys : List ℕ) → same xs ys ≡ true → xs ≡ ys

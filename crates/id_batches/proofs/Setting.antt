@@ -1,6 +1,6 @@
 -- Entries of a table that are set one after the other: a loop's step, two runs that make one, and what stands where.
 -- Assumes nothing.
-use Prim.Native.Nat.{ℕ, zero, suc, _+_, _-_, _<_, _≤_}
+use Prim.Native.Nat.{ℕ, zero, suc, _+_, _-_, _<_, _≤_, min}
 use mathlib.Core.Path.{_≡_, refl, sym, ap, _∙_}
 use mathlib.Core.List.{List, [], _∷_, _++_, map}
 use native.Mathlib.Omega.{arith}
@@ -130,7 +130,7 @@ module _ (l : List ℕ) (i to v : ℕ) where
   pub number-one : i < to → sets l i (upFrom v (to - i)) ≡ sets (set l i v) (i + 1) (upFrom (v + 1) (to - (i + 1)))
   number-one h = let e : to - i ≡ suc (to - (i + 1)) = omega arith in rw (e, up-from-cons v (to - (i + 1)), add-one i)
 
-  pub number-none : to - (to - length l) ≤ i → sets l i (upFrom v (to - i)) ≡ l
+  pub number-none : min to (length l) ≤ i → sets l i (upFrom v (to - i)) ≡ l
   number-none h = run-ends l i to (upFrom v (to - i)) (length-up-from v (to - i)) h
 
 pub front-set : (l vs : List ℕ) → length vs ≤ length l → setEach l (upFrom 0 (length vs)) vs ≡ vs ++ drop (length vs) l

@@ -1,7 +1,7 @@
 -- The ways through the rules, over plain values.
 -- Assumes nothing.
 use Prim.{Unit, tt}
-use Prim.Native.Nat.{ℕ, zero, suc, _+_, _-_, _<_, _≤_}
+use Prim.Native.Nat.{ℕ, zero, suc, _+_, _-_, _<_, _≤_, min}
 use native.Mathlib.Nat.{sub-zero, zero-sub, suc-sub-suc}
 use native.Mathlib.Omega.{arith}
 use mathlib.Core.Path.{_≡_, refl, sym, ap, _∙_}
@@ -10,7 +10,7 @@ use mathlib.Core.List.{List, [], _∷_}
 use mathlib.Core.Option.{Option, none, some}
 use borrow.Author.Tests.{lt-ltb, le-ltb, le-leb, lt-leb}
 use lib.Dec.{eqb, leb, ltb}
-use lib.ListN.{length, getD, take, drop}
+use lib.ListN.{length, getD, take, drop, length-take}
 use lib.Seq.{slice, take-nil, drop-nil}
 use denote.Ref.{RefT, now}
 use Rattle.refusal.specs.Number.{numberOf}
@@ -39,28 +39,23 @@ part-is (suc from) (suc to) [] = rw (take-nil (suc to - suc from))
 part-is (suc from) (suc to) (x ∷ l) = rw (suc-sub-suc to from) (part-is from to l)
 
 -- positions past the end change nothing
-take-least : (to : ℕ) (l : List ℕ) → take (to - (to - length l)) l ≡ take to l
-take-least zero l = rw (zero-sub (zero - length l))
-take-least (suc to) [] = rw (take-nil (suc to - (suc to - 0)))
+take-least : (to : ℕ) (l : List ℕ) → take (min to (length l)) l ≡ take to l
+take-least zero l = let e : min 0 (length l) ≡ 0 = omega arith in rw e
+take-least (suc to) [] = rw (take-nil (min (suc to) 0))
 take-least (suc to) (x ∷ l) =
-    let e : suc to - (suc to - suc (length l)) ≡ suc (to - (to - length l)) = omega arith in
+    let e : min (suc to) (suc (length l)) ≡ suc (min to (length l)) = omega arith in
     rw e (ap (λ (r : List ℕ). x ∷ r) (take-least to l))
 
-length-least : (to : ℕ) (l : List ℕ) → length (take to l) ≡ to - (to - length l)
-length-least zero l = omega arith
-length-least (suc to) [] = omega arith
-length-least (suc to) (x ∷ l) = let e = length-least to l in omega arith
-
-drop-least : (from : ℕ) (l : List ℕ) → drop (from - (from - length l)) l ≡ drop from l
-drop-least zero l = rw (zero-sub (zero - length l))
-drop-least (suc from) [] = rw (drop-nil (suc from - (suc from - 0)))
+drop-least : (from : ℕ) (l : List ℕ) → drop (min from (length l)) l ≡ drop from l
+drop-least zero l = let e : min 0 (length l) ≡ 0 = omega arith in rw e
+drop-least (suc from) [] = rw (drop-nil (min (suc from) 0))
 drop-least (suc from) (x ∷ l) =
-    let e : suc from - (suc from - suc (length l)) ≡ suc (from - (from - length l)) = omega arith in
+    let e : min (suc from) (suc (length l)) ≡ suc (min from (length l)) = omega arith in
     rw e (drop-least from l)
 
-pub clamped : (from to start stop : ℕ) (l : List ℕ) → stop ≡ to - (to - length l) → start ≡ from - (from - stop) → take (stop - start) (drop start l) ≡ slice from to l
+pub clamped : (from to start stop : ℕ) (l : List ℕ) → stop ≡ min to (length l) → start ≡ min from stop → take (stop - start) (drop start l) ≡ slice from to l
 clamped from to start stop l e f =
-    rw (part-is start stop l, f, e, take-least to l, sym (length-least to l)) (drop-least from (take to l))
+    rw (part-is start stop l, f, e, take-least to l, sym (length-take to l)) (drop-least from (take to l))
 
 -- a reservation past the first tests, and what either answer says of the span
 module _ (s : Ids) (n : ℕ) where

@@ -1,6 +1,6 @@
 -- The contracts determine the result and what is left of everything lent: no second result fits. One instance a function, under its name.
 -- Assumes nothing.
-use Prim.Native.Nat.{ℕ, _-_}
+use Prim.Native.Nat.{ℕ, _-_, min}
 use mathlib.Core.Bool.{Bool}
 use mathlib.Core.Path.{_≡_, sym, ap, _∙_}
 use mathlib.Core.List.{List}
@@ -127,8 +127,8 @@ fill table from to value = one (sets table from (replicate (to - from) value))
 pub minus : (a b : ℕ) → Sole (a - b)
 minus a b = one (a - b)
 
-pub least : (a b : ℕ) → Sole (a - (a - b))
-least a b = one (a - (a - b))
+pub least : (a b : ℕ) → Sole (min a b)
+least a b = one (min a b)
 
 -- the calls that change nothing lent
 module _ (s : Ids) where

@@ -1,6 +1,6 @@
 -- One value in the entries of a table from i to an end: one turn of the loop, and its end.
 -- Assumes nothing.
-use Prim.Native.Nat.{ℕ, suc, _+_, _-_, _<_, _≤_}
+use Prim.Native.Nat.{ℕ, suc, _+_, _-_, _<_, _≤_, min}
 use mathlib.Core.Path.{_≡_, refl}
 use mathlib.Core.List.{List, [], _∷_}
 use native.Mathlib.Omega.{arith}
@@ -13,7 +13,7 @@ sets-out l i [] h = refl
 sets-out l i (v ∷ vs) h = rw (set-out l i v h) (sets-out l (suc i) vs (omega arith))
 
 -- where the entries end, or the table does, nothing is left to store
-pub run-ends : (l : List ℕ) (i to : ℕ) (vs : List ℕ) → length vs ≡ to - i → to - (to - length l) ≤ i → sets l i vs ≡ l
+pub run-ends : (l : List ℕ) (i to : ℕ) (vs : List ℕ) → length vs ≡ to - i → min to (length l) ≤ i → sets l i vs ≡ l
 run-ends l i to [] e h = refl
 run-ends l i to (v ∷ vs) e h = sets-out l i (v ∷ vs) (omega arith)
 
@@ -21,5 +21,5 @@ module _ (l : List ℕ) (i to v : ℕ) where
   pub fill-one : i < to → sets l i (replicate (to - i) v) ≡ sets (set l i v) (i + 1) (replicate (to - (i + 1)) v)
   fill-one h = let e : to - i ≡ suc (to - (i + 1)) = omega arith in rw (e, add-one i)
 
-  pub fill-none : to - (to - length l) ≤ i → sets l i (replicate (to - i) v) ≡ l
+  pub fill-none : min to (length l) ≤ i → sets l i (replicate (to - i) v) ≡ l
   fill-none h = run-ends l i to (replicate (to - i) v) (length-replicate (to - i) v) h

@@ -1,6 +1,6 @@
 -- Scans that no entry ends: what was found so far, or what is left of the list, decides.
 -- Assumes nothing.
-use Prim.Native.Nat.{ℕ, _+_, _-_, _<_, _≤_}
+use Prim.Native.Nat.{ℕ, _+_, _<_, _≤_, min}
 use mathlib.Core.Path.{_≡_, refl, sym, ap, _∙_}
 use mathlib.Core.Bool.{Bool, true, false, not, _&&_, _||_, or-true, or-false, or-assoc}
 use mathlib.Core.List.{List, [], _∷_, _++_}
@@ -82,7 +82,7 @@ below-longer a b (n ∷ ns) h e =
 
 module _ (used : ℕ) (generations indices : List ℕ) where
   abbrev limit : ℕ
-  limit = used - (used - (length generations - (length generations - length indices)))
+  limit = min used (min (length generations) (length indices))
 
   -- a number that the tables do not have is damaged
   damaged-past : (n : ℕ) → limit ≤ n → damagedIn used generations indices n ≡ true

@@ -2,7 +2,7 @@
 use handle::MAX;
 ghost use mathlib.Core.Path.{_≡_};
 ghost use mathlib.Core.Bool.{false};
-ghost use Prim.Native.Nat.{_-_};
+ghost use Prim.Native.Nat.{_-_, min};
 ghost use lib.ListN.{length, replicate};
 ghost use lib.Seq.{sets};
 ghost use Rattle.id_tables.specs.Ids.{anyDamagedIn};
@@ -24,7 +24,7 @@ pub fn minus(a: usize, b: usize) -> usize
 
 // The lesser of the two.
 pub fn least(a: usize, b: usize) -> usize
-    ensures { λ r. ⌜ r ≡ a - (a - b) ⌝ }
+    ensures { λ r. ⌜ r ≡ min a b ⌝ }
 {
     if a < b {
         return a;

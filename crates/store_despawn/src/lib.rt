@@ -6,14 +6,12 @@ use handle::Handle;
 use handle::Place;
 use id_tables::Done;
 use id_tables::Head;
-use id_tables::is_live;
-use id_tables::place_at;
 use ids::Freed;
 use refusal::Refusal;
 use refusal::Tested;
-use store_tables::Own;
+use store_tables::Entity;
+use store_tables::entity_at;
 use store_tables::is_moved_damaged;
-use store_tables::own_place;
 ghost use mathlib.Core.Path.{_≡_};
 ghost use Rattle.refusal.specs.Table.{Did};
 ghost use Rattle.handle.specs.Bits.{generationIn, numberIn};
@@ -55,36 +53,42 @@ fn row_leaving(
     requires { ⌜ Entered (storeOf (declOf (now rows) (now widths) (now types) (now sizes)) (idsOf head (now generations) (now archetypes) (now indices) (now pending)) (tablesOf (now numbers) (now counts) (now bytes)) (now words)) ⌝ }
     ensures { λ r. ⌜ leavingOf r ≡ leaving (storeOf (declOf (now (rows .entry)) (now (widths .entry)) (now (types .entry)) (now (sizes .entry))) (idsOf head (now (generations .entry)) (now (archetypes .entry)) (now (indices .entry)) (now (pending .entry))) (tablesOf (now (numbers .entry)) (now (counts .entry)) (now (bytes .entry))) (now (words .entry))) (generationIn (handle .0)) (numberIn (handle .0)) ⌝ }
 {
-    if !head.is_flushed() {
-        return Leaving::Refused(Refusal::NotFlushed);
-    }
-    let id = handle.id();
-    let n = id.0 as usize;
-    if !is_live(head.used, generations, indices, handle.generation(), n) {
-        return Leaving::Refused(Refusal::NoSuchEntity);
-    }
-    let place = place_at(archetypes, indices, n);
-    let Own::At(span) = own_place(rows, widths, types, sizes, numbers, counts, place, id) else {
-        return Leaving::Refused(Refusal::Damaged);
-    };
-    if any_held(words) {
-        return Leaving::Refused(Refusal::WordHeld);
-    }
-    if head.live == 0 {
-        return Leaving::Refused(Refusal::Damaged);
-    }
-    if is_moved_damaged(
-        head.used,
+    match entity_at(
+        head,
+        rows,
+        widths,
+        types,
+        sizes,
+        generations,
         archetypes,
         indices,
+        pending,
         numbers,
         counts,
-        span.row,
-        place,
+        handle,
     ) {
-        return Leaving::Refused(Refusal::Damaged);
+        Entity::Refused(r) => Leaving::Refused(r),
+        Entity::At(span, place) => {
+            if any_held(words) {
+                return Leaving::Refused(Refusal::WordHeld);
+            }
+            if head.live == 0 {
+                return Leaving::Refused(Refusal::Damaged);
+            }
+            if is_moved_damaged(
+                head.used,
+                archetypes,
+                indices,
+                numbers,
+                counts,
+                span.row,
+                place,
+            ) {
+                return Leaving::Refused(Refusal::Damaged);
+            }
+            Leaving::From(span, place)
+        }
     }
-    Leaving::From(span, place)
 }
 
 // The row of the entity that a despawn ends, or why it is refused.

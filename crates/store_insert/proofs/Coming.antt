@@ -44,7 +44,7 @@ use Rattle.store_moves.specs.Steps.{movedSeats}
 use Rattle.store_moves.specs.Kept.{Moving}
 use Rattle.store_moves.proofs.Seeking.{target-means}
 use Rattle.store_moves.proofs.Targets.{before-in, wider, type-added, with-differs}
-use Rattle.store_moves.proofs.Entities.{MoveOk, move-ok, into-none, into-refused, into-granted}
+use Rattle.store_moves.proofs.Passing.{MoveOk, move-ok, into-none, into-refused, into-granted}
 use Rattle.store_moves.proofs.Moving.{all-small, all-in, has-moved}
 use Rattle.store_moves.proofs.Owning.{column-in, moving}
 use Rattle.store_insert.specs.declared.Way.{Way}

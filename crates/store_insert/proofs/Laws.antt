@@ -20,9 +20,11 @@ use Rattle.decl.specs.declared.Column.the-variants.{At, Missing}
 use Rattle.column_entry.specs.Entry.{wrongSize}
 use Rattle.store_tables.specs.Store.{Store, entry}
 use Rattle.store_tables.specs.Rows.{archetypeOf, rowOf}
+use Rattle.store_tables.specs.Entities.{entityRules}
+use Rattle.store_tables.proofs.Entities.{EntityOk, entity-ok, ok-entity}
 use Rattle.store_moves.specs.Target.{withType, targetOf}
-use Rattle.store_moves.specs.Moves.{entityRules, runWith, movedTo}
-use Rattle.store_moves.proofs.Entities.{EntityOk, entity-ok, ok-entity, MoveOk, ok-move, into-granted, into-parts}
+use Rattle.store_moves.specs.Moves.{runWith, movedTo}
+use Rattle.store_moves.proofs.Passing.{MoveOk, ok-move, into-granted, into-parts}
 use Rattle.store_insert.specs.Insert.{overwritten, insertedAt, inserted, inserting}
 
 -- the bytes of number n's row with a value of type t added

@@ -27,7 +27,7 @@ use Rattle.store_moves.specs.declared.target.Change.the-variants.{Added}
 use Rattle.store_moves.specs.Target.{typesBefore, changed, targetOf, targetFound}
 use Rattle.store_moves.specs.Moves.{moveRules}
 use Rattle.store_moves.specs.Steps.{moveSeen}
-use Rattle.store_moves.proofs.Entities.{move-told}
+use Rattle.store_moves.proofs.Passing.{move-told}
 use Rattle.store_moves.proofs.Owning.{own-is, column-found, found-none, found-some}
 use Rattle.store_insert.specs.declared.Way.the-variants.{Over, Into}
 use Rattle.store_insert.specs.Insert.{wayInto, wayFor}

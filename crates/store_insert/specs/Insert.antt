@@ -18,8 +18,9 @@ use Rattle.row_step.specs.Tables.{tablesOf}
 use Rattle.column_entry.specs.Entry.{wrongSize}
 use Rattle.store_tables.specs.Store.{Store, withRows, entry}
 use Rattle.store_tables.specs.Rows.{archetypeOf, rowOf}
+use Rattle.store_tables.specs.Entities.{entityRules}
 use Rattle.store_moves.specs.Target.{typesBefore, withType, targetOf}
-use Rattle.store_moves.specs.Moves.{entityRules, moveRules, runWith, movedInto}
+use Rattle.store_moves.specs.Moves.{moveRules, runWith, movedInto}
 use Rattle.store_insert.specs.declared.Way.{Way}
 use Rattle.store_insert.specs.declared.Way.the-variants.{Over, Into, Refused}
 

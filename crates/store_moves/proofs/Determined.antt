@@ -5,11 +5,10 @@ use mathlib.Core.Path.{_≡_, sym, ap, _∙_}
 use mathlib.Core.List.{List}
 use lib.ListN.{getD}
 use Rattle.refusal.specs.Table.{testOf, passing}
-use Rattle.refusal.specs.Laws.{sole-answer, not-refused}
-use Rattle.refusal.specs.Distinct.{tested-tells, number-inj}
+use Rattle.refusal.specs.Laws.{sole-answer}
+use Rattle.refusal.specs.Distinct.{tested-tells}
 use Rattle.refusal.specs.declared.Tested.{Tested}
 use Rattle.handle.specs.declared.Place.{Place}
-use Rattle.id_tables.specs.Ids.{Ids}
 use Rattle.decl.specs.Decl.{Decl}
 use Rattle.decl.specs.declared.Span.{Span}
 use Rattle.cells.specs.Line.{lineOf}
@@ -18,10 +17,8 @@ use Rattle.store_steps.specs.Seats.{Seats}
 use Rattle.store_moves.specs.declared.target.Target.{Target}
 use Rattle.store_moves.specs.declared.target.Target.the-variants as target
 use Rattle.store_moves.specs.declared.target.Change.{Change}
-use Rattle.store_moves.specs.declared.tests.Entity.{Entity}
-use Rattle.store_moves.specs.declared.tests.Entity.the-variants as entity
 use Rattle.store_moves.specs.Target.{typesBefore, changed, targetOf, targetFound}
-use Rattle.store_moves.specs.Steps.{entitySeen, entityOf, moveSeen, gathered, movedSeats}
+use Rattle.store_moves.specs.Steps.{moveSeen, gathered, movedSeats}
 
 target-tells : (r r′ : Target) → targetFound r ≡ targetFound r′ → r ≡ r′
 target-tells (target.At a) (target.At b) e = ap target.At (cc)
@@ -29,24 +26,12 @@ target-tells (target.At a) target.Missing e = cc
 target-tells target.Missing (target.At b) e = cc
 target-tells target.Missing target.Missing e = cc
 
-told : {a b : Span} {p q : Place} → _≡_ {A = Span × Place} (a, p) (b, q) → entity.At a p ≡ entity.At b q
-told e = ap (λ (x : Span × Place). entity.At (x .0) (x .1)) e
-
-entity-tells : (r r′ : Entity) → entityOf r ≡ entityOf r′ → r ≡ r′
-entity-tells (entity.At a p) (entity.At b q) e = told (cc)
-entity-tells (entity.At a p) (entity.Refused y) e = absurd (not-refused e)
-entity-tells (entity.Refused x) (entity.At b q) e = absurd (not-refused (sym e))
-entity-tells (entity.Refused x) (entity.Refused y) e = ap entity.Refused (number-inj x y (cc))
-
 pub types-before : (t : ℕ) (types : List ℕ) (r r′ : ℕ) → r ≡ typesBefore t types → r′ ≡ typesBefore t types → r ≡ r′
 types-before t types r r′ d e = d ∙ sym e
 
 pub target-of : (d : Decl) (own : List ℕ) (place : ℕ) (change : Change) (r r′ : Target) → targetFound r ≡ targetOf d (changed change place own)
     → targetFound r′ ≡ targetOf d (changed change place own) → r ≡ r′
 target-of d own place change r r′ p q = target-tells r r′ (p ∙ sym q)
-
-pub entity-at : (d : Decl) (i : Ids) (numbers counts : List ℕ) (g n : ℕ) (r r′ : Entity) → entityOf r ≡ entitySeen d i numbers counts g n → entityOf r′ ≡ entitySeen d i numbers counts g n → r ≡ r′
-entity-at d i numbers counts g n r r′ p q = entity-tells r r′ (p ∙ sym q)
 
 pub move-tested : (first used : ℕ) (rows archetypes indices numbers counts words : List ℕ) (a row b : ℕ) (r r′ : Tested)
     → testOf r ≡ passing (moveSeen first used rows archetypes indices numbers counts words a row b)

@@ -27,7 +27,7 @@ use Rattle.store_moves.specs.declared.target.Change.{Change}
 use Rattle.store_moves.specs.Target.{changed, targetOf, targetFound}
 use Rattle.store_moves.specs.Kept.{Moving}
 use Rattle.store_moves.proofs.Seeking.{target-means}
-use Rattle.store_moves.proofs.Entities.{MoveOk}
+use Rattle.store_moves.proofs.Passing.{MoveOk}
 
 module _ (s : Store) (e : Entered s) (n : ℕ) (span : Span) (p : span ≡ spanOf (s .decl) (archetypeOf s n)) where
   abbrev declares : Declared (s .decl)

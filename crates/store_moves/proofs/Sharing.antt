@@ -3,7 +3,6 @@
 use Prim.Native.Nat.{ℕ, suc, _+_, _-_, _*_, _≤_, _<_}
 use native.Mathlib.Omega.{arith}
 use native.Mathlib.Nat.{eq-or-lt-of-le, mul-add}
-use mathlib.Core.Bool.{true}
 use mathlib.Core.List.{List, [], _∷_, _++_}
 use mathlib.Core.Logic.{inl, inr, ⊎-elim}
 use mathlib.Core.Path.{_≡_, refl, sym, ap, _∙_}
@@ -12,8 +11,7 @@ use lib.Seq.{take-append-le, drop-append-le, drop-append-add, take-append-add, t
 use Rattle.decl.specs.Decl.{Decl, rowsOf, widthOf, typesOf, sizesOf, typeOf, sizeOf}
 use Rattle.decl.specs.Places.{baseOf, cellStart}
 use Rattle.decl.specs.Kept.{Declared}
-use Rattle.decl.specs.Lists.{rising}
-use Rattle.decl.proofs.Lists.{below-or-not, rises}
+use Rattle.decl.proofs.Lists.{below-or-not, one-place}
 use Rattle.decl.proofs.Keeping.{types-length, sizes-length}
 use Rattle.decl.proofs.Placing.{base-grows}
 use Rattle.cells.specs.Cell.{cell}
@@ -231,12 +229,6 @@ module _ (s : Store) (n b : ℕ) (run : List ℕ) (m : Moving (s .decl) (s .rows
       (within-block (sizesOf d b) (baseOf d b) (rowsOf d b) (countOf (s .rows) b) (length (s .rows .bytes)) (m .row-unused) bytes-in)
       (parted-block (sizesOf d b) (baseOf d b) (rowsOf d b) (countOf (s .rows) b) (m .row-unused)) k i
       ∙ ap (λ (x : ℕ). cell run x (sizeOf d b k)) (run-at (sizesOf d b) k))
-
--- of ascending numbers, none stands twice
-one-place : (xs : List ℕ) → rising xs ≡ true → (i j : ℕ) → i < length xs → j < length xs → getD xs i 0 ≡ getD xs j 0 → i ≡ j
-one-place xs r i j h k e =
-    ⊎-elim (λ (l : i < j). absurd (omega (arith, rises xs r i j l k)))
-    (λ (l : j ≤ i). ⊎-elim (λ (q : j ≡ i). sym q) (λ (q : j < i). absurd (omega (arith, rises xs r j i q h))) (eq-or-lt-of-le l)) (below-or-not i j)
 
 -- A row that has moved: each component of a type that both archetypes have keeps its bytes.
 module _ (s : Store) (n b : ℕ) (m : Moving (s .decl) (s .rows) (archetypeOf s n) (rowOf s n) b) where

@@ -1,7 +1,6 @@
 -- A row that moves to another archetype with the number in it: what is tested, and what is left.
 use Prim.{Unit, tt}
 use Prim.Native.Nat.{ℕ}
-use mathlib.Core.Bool.{not}
 use mathlib.Core.List.{List, [], _∷_}
 use mathlib.Core.Option.{Option, none, some}
 use lib.Dec.{leb}
@@ -9,24 +8,15 @@ use lib.ListN.{take}
 use Rattle.refusal.specs.Table.{Rule, _when_, Answer, refused, _otherwise_}
 use Rattle.handle.specs.Bits.{placeOf}
 use Rattle.borrow_word.specs.Slice.{anyHeld}
-use Rattle.id_tables.specs.Head.{flushed}
-use Rattle.id_tables.specs.Ids.{live, placed}
+use Rattle.id_tables.specs.Ids.{placed}
 use Rattle.decl.specs.Decl.{Decl, rowsOf, typesOf, sizesOf, sizeOf}
 use Rattle.cells.specs.Line.{width, rowBytes}
 use Rattle.row_step.specs.Tables.{Rows, countOf, lineIn}
 use Rattle.column_entry.specs.Entry.{blockIn}
 use Rattle.store_tables.specs.Store.{Store, withIds}
-use Rattle.store_tables.specs.Rows.{archetypeOf, rowOf, owns, movedDamaged, seated, vacated}
+use Rattle.store_tables.specs.Rows.{archetypeOf, rowOf, movedDamaged, seated, vacated}
 use Rattle.store_moves.specs.Lists.{putIn, takenOut}
 use Rattle.store_moves.specs.Target.{typesBefore}
-
--- of an entity whose components are to change, past 12, 13, the head's 1, and 5
-unfoldable pub entityRules : Store → ℕ → ℕ → List Rule
-entityRules s generation n =
-    3 when not (flushed (s .ids .head))
-    ∷ 2 when not (live (s .ids) generation n)
-    ∷ 1 when not (owns s n)
-    ∷ []
 
 -- of number n's row that is to move to archetype b, past 14 or 15
 unfoldable pub moveRules : Store → ℕ → ℕ → List Rule

@@ -1,44 +1,17 @@
 -- What the tests see and the steps leave on any tables; on tables that pass the first tests they are the rules of Moves.
 use Prim.Native.Nat.{ℕ}
-use mathlib.Core.Bool.{not}
 use mathlib.Core.List.{List, [], _∷_}
-use mathlib.Core.Option.{Option, none, some}
 use lib.Dec.{leb}
 use lib.ListN.{getD, set, take, drop}
-use Rattle.refusal.specs.Number.{numberOf}
-use Rattle.refusal.specs.Table.{Rule, _when_, Answer, granted, refused, _orElse_}
-use Rattle.handle.specs.declared.Place.{Place}
+use Rattle.refusal.specs.Table.{Rule, _when_}
 use Rattle.borrow_word.specs.Slice.{anyHeld}
-use Rattle.id_tables.specs.Head.{flushed}
-use Rattle.id_tables.specs.Ids.{Ids, live, indexAt, placeAt}
-use Rattle.decl.specs.Decl.{Decl}
-use Rattle.decl.specs.declared.Span.{Span}
 use Rattle.cells.specs.Cell.{written}
 use Rattle.cells.specs.Line.{nextOf, pastOf, runLine, lineTold, transferred}
 use Rattle.cells.specs.declared.Line.{Line}
 use Rattle.row_step.specs.declared.Block.{Block}
 use Rattle.row_step.specs.Tables.{countOf}
 use Rattle.store_steps.specs.Seats.{Seats, seatsOf, seatedRows, vacatedSeats}
-use Rattle.store_tables.specs.Seen.{ownSeen, movedSeen}
-use Rattle.store_moves.specs.declared.tests.Entity.{Entity}
-use Rattle.store_moves.specs.declared.tests.Entity.the-variants.{At, Refused}
-
--- the part of the tables that an entity's archetype has, and its place; 1 where that is not its own
-abbrev pub ownAt : Place → Option Span → Answer (Span × Place)
-ownAt place none = refused 1
-ownAt place (some span) = granted (span, place)
-
-unfoldable pub entitySeen : Decl → Ids → List ℕ → List ℕ → ℕ → ℕ → Answer (Span × Place)
-entitySeen d i numbers counts generation n =
-    3 when not (flushed (i .head))
-    ∷ 2 when not (live i generation n)
-    ∷ []
-    orElse ownAt (placeAt i n) (ownSeen d numbers counts (getD (i .archetypes) n 0) (indexAt i n) n)
-
--- the document's number and values of each case
-abbrev pub entityOf : Entity → Answer (Span × Place)
-entityOf (At span place) = granted (span, place)
-entityOf (Refused r) = refused (numberOf r)
+use Rattle.store_tables.specs.Seen.{movedSeen}
 
 -- a row at place (a, r) that is to move to archetype b, where the rows of a begin at `first`
 unfoldable pub moveSeen : ℕ → ℕ → List ℕ → List ℕ → List ℕ → List ℕ → List ℕ → List ℕ → ℕ → ℕ → ℕ → List Rule

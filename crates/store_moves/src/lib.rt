@@ -9,6 +9,4 @@ pub use target::Change;
 pub use target::Target;
 pub use target::target_of;
 pub use target::types_before;
-pub use tests::Entity;
-pub use tests::entity_at;
 pub use tests::move_tested;

@@ -1,11 +1,11 @@
 // The step of a move, over any tables: a row's bytes are gathered, then its number and they go to another archetype's first unused row.
-use crate::target::least;
 use cells::Line;
 use decl::Span;
 use handle::Number;
 use handle::Place;
 use handle::Row;
 use id_tables::at;
+use id_tables::least;
 use store_steps::part_of;
 ghost use mathlib.Core.Path.{_≡_};
 ghost use lib.ListN.{getD};

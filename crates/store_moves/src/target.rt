@@ -1,5 +1,6 @@
 // The target of an insert or a remove: the archetype of just the types that the row then has.
 use id_tables::at;
+use id_tables::least;
 ghost use mathlib.Core.Path.{_≡_};
 ghost use mathlib.Core.List.{[], _∷_};
 ghost use Prim.Native.Nat.{ℕ, _+_, _≤_, min};
@@ -86,15 +87,6 @@ fn is_with(xs: &[u32], place: usize, x: u32, ys: &[u32]) -> bool
         return false;
     }
     is_without(ys, k, xs)
-}
-
-pub(crate) fn least(a: usize, b: usize) -> usize
-    ensures { λ r. ⌜ r ≡ min a b ⌝ }
-{
-    if a < b {
-        return a;
-    }
-    b
 }
 
 fn is_changed(xs: &[u32], place: usize, change: Change, ys: &[u32]) -> bool

@@ -16,9 +16,11 @@ use Rattle.decl.specs.declared.Column.{Column}
 use Rattle.decl.specs.declared.Column.the-variants.{At, Missing}
 use Rattle.store_tables.specs.Store.{Store, entry}
 use Rattle.store_tables.specs.Rows.{archetypeOf, rowOf}
+use Rattle.store_tables.specs.Entities.{entityRules}
+use Rattle.store_tables.proofs.Entities.{EntityOk, entity-ok, ok-entity}
 use Rattle.store_moves.specs.Target.{withoutType, targetOf}
-use Rattle.store_moves.specs.Moves.{entityRules, runWithout, movedTo}
-use Rattle.store_moves.proofs.Entities.{EntityOk, entity-ok, ok-entity, MoveOk, ok-move, into-granted, into-parts}
+use Rattle.store_moves.specs.Moves.{runWithout, movedTo}
+use Rattle.store_moves.proofs.Passing.{MoveOk, ok-move, into-granted, into-parts}
 use Rattle.store_remove.specs.Remove.{removedAt, removed, removing}
 
 -- the bytes of number n's row without column j

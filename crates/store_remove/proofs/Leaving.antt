@@ -29,7 +29,7 @@ use Rattle.store_moves.specs.Steps.{movedSeats}
 use Rattle.store_moves.specs.Kept.{Moving}
 use Rattle.store_moves.proofs.Seeking.{target-means}
 use Rattle.store_moves.proofs.Targets.{without-differs}
-use Rattle.store_moves.proofs.Entities.{MoveOk, move-ok, into-none, into-refused, into-granted}
+use Rattle.store_moves.proofs.Passing.{MoveOk, move-ok, into-none, into-refused, into-granted}
 use Rattle.store_moves.proofs.Moving.{has-moved}
 use Rattle.store_moves.proofs.Owning.{column-in, moving}
 use Rattle.store_remove.specs.declared.Way.{Way}

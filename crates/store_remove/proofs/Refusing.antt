@@ -21,9 +21,10 @@ use Rattle.store_tables.specs.Rows.{archetypeOf, rowOf, owns, movedDamaged}
 use Rattle.store_tables.specs.Kept.{Entered}
 use Rattle.store_tables.specs.Held.{isMissing}
 use Rattle.store_tables.proofs.Passing.{bits-lines}
+use Rattle.store_tables.proofs.Entities.{entity-lines}
 use Rattle.store_moves.specs.Moves.{runWithout}
 use Rattle.store_moves.specs.Lines.{isNone, isFull, shrunkInto}
-use Rattle.store_moves.proofs.Refusing.{entity-lines, movedThere, into-lines}
+use Rattle.store_moves.proofs.Refusing.{movedThere, into-lines}
 use Rattle.store_remove.specs.Remove.{removedAt, removed, removing}
 
 -- the store that a remove leaves

@@ -25,7 +25,7 @@ use Rattle.store_moves.specs.declared.target.Change.the-variants.{Taken}
 use Rattle.store_moves.specs.Target.{changed, targetOf, targetFound}
 use Rattle.store_moves.specs.Moves.{moveRules}
 use Rattle.store_moves.specs.Steps.{moveSeen}
-use Rattle.store_moves.proofs.Entities.{move-told}
+use Rattle.store_moves.proofs.Passing.{move-told}
 use Rattle.store_moves.proofs.Owning.{column-found, found-none, found-some}
 use Rattle.store_remove.specs.declared.Way.the-variants.{From}
 use Rattle.store_remove.specs.Remove.{wayInto, wayFor}

@@ -12,8 +12,9 @@ use Rattle.decl.specs.declared.Column.{Column}
 use Rattle.decl.specs.declared.Column.the-variants.{At, Missing}
 use Rattle.store_tables.specs.Store.{Store, entry}
 use Rattle.store_tables.specs.Rows.{archetypeOf, rowOf}
+use Rattle.store_tables.specs.Entities.{entityRules}
 use Rattle.store_moves.specs.Target.{withoutType, targetOf}
-use Rattle.store_moves.specs.Moves.{entityRules, moveRules, runWithout, movedInto}
+use Rattle.store_moves.specs.Moves.{moveRules, runWithout, movedInto}
 use Rattle.store_remove.specs.declared.Way.{Way}
 use Rattle.store_remove.specs.declared.Way.the-variants.{From, Refused}
 

@@ -20,6 +20,7 @@ use Rattle.cells.proofs.Laws.{length-put}
 use Rattle.store_tables.specs.Store.{Store}
 use Rattle.store_tables.specs.Rows.{archetypeOf, rowOf}
 use Rattle.store_tables.proofs.Entering.{entered-right}
+use Rattle.store_tables.proofs.Entities.{EntityOk}
 use Rattle.store_reads.specs.Component.{cellIn}
 use Rattle.store_reads.proofs.Cells.{column-in}
 use Rattle.store_reads.proofs.Meaning.{held}
@@ -29,7 +30,7 @@ use Rattle.store_moves.specs.Target.{typesBefore, withType, withoutType, target
 use Rattle.store_moves.specs.Moves.{runWith, runWithout, movedTo}
 use Rattle.store_moves.proofs.Seeking.{target-means}
 use Rattle.store_moves.proofs.Targets.{before-in, with-differs, without-differs}
-use Rattle.store_moves.proofs.Entities.{EntityOk, MoveOk}
+use Rattle.store_moves.proofs.Passing.{MoveOk}
 use Rattle.store_moves.proofs.Standing.{moved-to}
 use Rattle.store_insert.specs.Insert.{overwritten, inserting}
 use Rattle.store_insert.proofs.Laws.{OverOk, IntoOk, insert-parts, inserting-parts}

@@ -27,12 +27,13 @@ use Rattle.column_entry.specs.Entry.{wrongSize}
 use Rattle.columns.specs.Calls.{heldAt}
 use Rattle.store_tables.specs.Store.{Store}
 use Rattle.store_tables.specs.Rows.{archetypeOf, rowOf}
+use Rattle.store_tables.proofs.Entities.{EntityOk}
 use Rattle.store_reads.proofs.Cells.{column-in}
 use Rattle.store_reads.proofs.Sizes.{size-right}
 use Rattle.store_moves.specs.Target.{typesBefore, withType, withoutType}
 use Rattle.store_moves.specs.Moves.{runWith, runWithout, movedTo}
 use Rattle.store_moves.proofs.Targets.{before-in, wider, type-added, with-before, with-after, with-differs, narrower, without-before, without-after, without-differs}
-use Rattle.store_moves.proofs.Entities.{EntityOk, MoveOk}
+use Rattle.store_moves.proofs.Passing.{MoveOk}
 use Rattle.store_moves.proofs.Standing.{moved-to}
 use Rattle.soundness.specs.Sound.{Lives, Sound}
 use Rattle.soundness.proofs.Meaning.{live-lives}

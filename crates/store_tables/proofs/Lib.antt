@@ -2,6 +2,7 @@
 mod Seeing
 pub mod Entering
 pub mod Places
+pub mod Entities
 pub mod Vacating
 pub mod Passing
 pub mod Remaining

@@ -1,4 +1,4 @@
--- The ways through the tests of places, over plain values.
+-- The ways through the tests of places and of an entity, over plain values.
 -- Assumes nothing.
 use Prim.Native.Nat.{ℕ, _+_, _-_, _<_, _≤_}
 use mathlib.Core.Path.{_≡_}
@@ -8,10 +8,17 @@ use mathlib.Core.Option.{none, some}
 use lib.Dec.{eqb}
 use lib.ListN.{getD}
 use borrow.Author.Tests.{lt-ltb, le-ltb, le-leb, lt-leb, eq-eqb, ne-eqb}
+use Rattle.refusal.specs.Table.{granted, refused, _orElse_}
+use Rattle.handle.specs.declared.Place.{Place}
+use Rattle.id_tables.specs.Head.{flushed}
+use Rattle.id_tables.specs.Ids.{Ids, live, placeAt}
 use Rattle.decl.specs.Decl.{Decl, archetypes}
 use Rattle.decl.specs.declared.Span.{Span}
 use Rattle.column_entry.specs.Entry.{spanIn}
-use Rattle.store_tables.specs.Seen.{ownSeen, movedSeen}
+use Rattle.store_tables.specs.declared.Own.{Own}
+use Rattle.store_tables.specs.declared.Own.the-variants.{At, Damaged}
+use Rattle.store_tables.specs.Seen.{ownSeen, ownOf, movedSeen}
+use Rattle.store_tables.specs.Entities.{entitySeen}
 
 module _ (d : Decl) (numbers counts : List ℕ) (a r n : ℕ) where
   pub no-archetype : archetypes d ≤ a → none ≡ ownSeen d numbers counts a r n
@@ -50,3 +57,24 @@ module _ (first used : ℕ) (archetypes indices numbers counts : List ℕ) (a r 
       pub by-index : (x : ℕ) → x ≡ getD indices m 0 → b ≡ a → not (eqb x last) ≡ movedSeen first used archetypes indices numbers counts a r
       unfolding movedSeen
       by-index x s f = rw (← c, ne-eqb _ _ e, ← q, lt-leb _ _ h, ← p, eq-eqb _ _ f, ← s)
+
+module _ (d : Decl) (i : Ids) (numbers counts : List ℕ) (g n : ℕ) where
+  pub unflushed : flushed (i .head) ≡ false → refused 3 ≡ entitySeen d i numbers counts g n
+  unfolding entitySeen _orElse_
+  unflushed f = rw f
+
+  -- the generation and the number, as the code has taken them from the handle
+  module _ (g′ n′ : ℕ) (eg : g′ ≡ g) (en : n′ ≡ n) (f : flushed (i .head) ≡ true) where
+    pub absent : live i g′ n′ ≡ false → refused 2 ≡ entitySeen d i numbers counts g n
+    unfolding entitySeen _orElse_
+    absent l = rw (← eg, ← en, f, l)
+
+    module _ (l : live i g′ n′ ≡ true) (place : Place) (p : place ≡ placeAt i n′) (own : Own)
+        (o : ownOf own ≡ ownSeen d numbers counts (place .archetype) (place .index .0) n′) where
+      pub not-own : own ≡ Damaged → refused 1 ≡ entitySeen d i numbers counts g n
+      unfolding entitySeen _orElse_
+      not-own a = rw (← eg, ← en, f, l, ← (rw p at o), a)
+
+      pub its-own : (span : Span) → own ≡ At span → granted (span, place) ≡ entitySeen d i numbers counts g n
+      unfolding entitySeen _orElse_
+      its-own span a = rw (← eg, ← en, f, l, ← (rw p at o), a, p)

@@ -1,28 +1,39 @@
-// What every store call tests first, and the tests of places that several calls share.
+// What every store call tests first, and the tests of places and entities that several calls share.
 mod run;
 
 use decl::Span;
+use handle::Handle;
 use handle::Number;
 use handle::Place;
 use handle::Row;
 use id_tables::Head;
 use id_tables::at;
+use id_tables::is_live;
+use id_tables::place_at;
 use refusal::Refusal;
 use refusal::Tested;
 ghost use mathlib.Core.Path.{_≡_};
 ghost use Prim.Native.Nat.{_-_};
 ghost use Rattle.refusal.specs.Table.{testOf, passing};
+ghost use Rattle.handle.specs.Bits.{generationIn, numberIn};
 ghost use Rattle.decl.specs.Decl.{declOf};
 ghost use Rattle.id_tables.specs.Ids.{idsOf};
 ghost use Rattle.row_step.specs.Tables.{tablesOf};
 ghost use Rattle.store_tables.specs.Store.{storeOf, lentRules, entry};
 ghost use Rattle.store_tables.specs.Seen.{ownSeen, ownOf, movedSeen};
+ghost use Rattle.store_tables.specs.Entities.{entitySeen, entityOf};
 pub use run::is_run_wrong;
 
 // A place is a row that holds the number, in an archetype with this part of the tables; or it is not.
 pub enum Own {
     At(Span),
     Damaged,
+}
+
+// An entity in a row of its own: its archetype's part of the tables, and its place.
+pub enum Entity {
+    At(Span, Place),
+    Refused(Refusal),
 }
 
 // 13 for the other id tables, the words, and a value or an output.
@@ -127,6 +138,38 @@ pub fn own_place(
         return Own::Damaged;
     }
     Own::At(span)
+}
+
+// The entity of a handle, where its row may change or leave.
+pub fn entity_at(
+    head: Head,
+    rows: &[u32],
+    widths: &[u32],
+    types: &[u32],
+    sizes: &[u32],
+    generations: &[u32],
+    archetypes: &[u32],
+    indices: &[u32],
+    pending: &[u32],
+    numbers: &[u32],
+    counts: &[u32],
+    handle: Handle,
+) -> Entity
+    ensures { λ r. ⌜ entityOf r ≡ entitySeen (declOf (now (rows .entry)) (now (widths .entry)) (now (types .entry)) (now (sizes .entry))) (idsOf head (now (generations .entry)) (now (archetypes .entry)) (now (indices .entry)) (now (pending .entry))) (now (numbers .entry)) (now (counts .entry)) (generationIn (handle .0)) (numberIn (handle .0)) ⌝ }
+{
+    if !head.is_flushed() {
+        return Entity::Refused(Refusal::NotFlushed);
+    }
+    let id = handle.id();
+    let n = id.0 as usize;
+    if !is_live(head.used, generations, indices, handle.generation(), n) {
+        return Entity::Refused(Refusal::NoSuchEntity);
+    }
+    let place = place_at(archetypes, indices, n);
+    let Own::At(span) = own_place(rows, widths, types, sizes, numbers, counts, place, id) else {
+        return Entity::Refused(Refusal::Damaged);
+    };
+    Entity::At(span, place)
 }
 
 // Whether the number that a removal of a row moves is damaged, where the archetype's rows begin at `first`.

@@ -5,7 +5,7 @@ use mathlib.Core.Path.{refl, _∙_}
 use borrow.Author.Needs.{needs}
 use Rattle.refusal.specs.Laws.{refuse, via, told}
 use Rattle.store_tables.proofs.Entering.{entered}
-use Rattle.store_moves.proofs.Entities.{entity-said}
+use Rattle.store_tables.proofs.Entities.{entity-said}
 use Rattle.store_insert.proofs.Calling.{unfit, asks, fit, insert-first, insert-zero, insert-good, insert-right}
 use Rattle.store_insert.proofs.insert.Statement.{statement}
 use Rattle.store_insert.proofs.insert.Tie as tie

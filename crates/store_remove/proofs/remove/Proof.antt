@@ -6,7 +6,7 @@ use borrow.Author.Needs.{needs}
 use Rattle.refusal.specs.Laws.{refuse, via, told}
 use Rattle.handle.specs.OnBits.{on-first, on-zero, on-good}
 use Rattle.store_tables.proofs.Entering.{entered}
-use Rattle.store_moves.proofs.Entities.{entity-said}
+use Rattle.store_tables.proofs.Entities.{entity-said}
 use Rattle.store_remove.specs.Remove.{removing}
 use Rattle.store_remove.proofs.Calling.{unfit, asks, fit}
 use Rattle.store_remove.proofs.remove.Statement.{statement}
