@@ -37,7 +37,9 @@
    A fresh store has the declaration (rows, widths, types, sizes) as wanted, and zeros elsewhere.
 
    "12, 13, 1" below stands for the first tests of a layer: the sizes and the declaration (12),
-   the lengths of all that is lent (13), the head and the row counts (1). */
+   the lengths of all that is lent (13), the head and the row counts (1). The length of
+   component bytes (`value`, `run`, `taken`) is tested only where the type and the archetype,
+   as far as the call names them, are declared. */
 
 #ifndef VERDICT_STORE_H
 #define VERDICT_STORE_H
@@ -371,9 +373,10 @@ uint32_t verdict_store_spawn(
     const uint64_t *words, size_t words_count, uint32_t archetype,
     const uint8_t *run, size_t run_count, uint64_t out[4]);
 
-/* Makes an entity at a chosen handle. A live entity that has the number leaves first,
-   whatever its generation. Refusals: 12, 13, 1, 5, 3, 6, 1 where a live number's place is
-   not its own, 8, 4, 1. */
+/* Makes an entity at a chosen handle; `run` is its components in column order. A live
+   entity that has the number leaves first, whatever its generation. Refusals: 12, 13 (also
+   where `run` is not as long as the row), 1, 5, 3, 6, 1 where a live number's place is not
+   its own, 8, 4, 1. */
 uint32_t verdict_store_spawn_at(
     uint64_t head[4], const uint32_t *rows, size_t rows_count,
     const uint32_t *widths, size_t widths_count, const uint32_t *types, size_t types_count,
@@ -450,8 +453,8 @@ uint32_t verdict_store_write(
     uint8_t *bytes, size_t bytes_count, const uint64_t *words, size_t words_count, uint64_t bits,
     uint32_t kind, const uint8_t *value, size_t value_count);
 
-/* Shared borrow of a column. While a column is borrowed no call moves a row. Refusals: 12,
-   13, 1, 6, 15, 9, 7. */
+/* Shared borrow of a column. While a column is borrowed no store call moves a row.
+   Refusals: 12, 13, 1, 6, 15, 9, 7. */
 uint32_t verdict_store_borrow(
     const uint64_t head[4], const uint32_t *rows, size_t rows_count,
     const uint32_t *widths, size_t widths_count, const uint32_t *types, size_t types_count,

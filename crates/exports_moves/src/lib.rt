@@ -1,4 +1,4 @@
-// What another language links of the store's calls that move rows to a chosen place: spawn at, insert, remove, flush. Every call answers the refusal's number, 0 where it is granted; a head is four numbers: used, pending, the cursor in two's complement, live.
+// What another language links of the store's spawn at, insert, remove and flush. Every call answers the refusal's number, 0 where it is granted; a head is four numbers: used, pending, the cursor in two's complement, live.
 use crossing::done;
 use crossing::head_of;
 use crossing::tested;

@@ -1,6 +1,6 @@
 //! Compares the proved library with the original and with the second program.
 //!
-//!     compare                         all runs, a million calls and more
+//!     compare                         all runs, two million calls
 //!     compare short                   the same with fewer calls
 //!     compare words|ids|columns|store|walks [SEED [COUNT]]
 //!     compare replay FILE             a call that was answered otherwise, once more
