@@ -3,3 +3,4 @@ mod Signed
 mod Heads
 pub mod Sole
 pub mod Telling
+pub mod Determined
