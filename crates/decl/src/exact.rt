@@ -174,7 +174,7 @@ fn any_clash(widths: &[u32], types: &[u32], sizes: &[u32]) -> bool
 }
 
 // All the tests of a declaration.
-pub fn tested(rows: &[u32], widths: &[u32], types: &[u32], sizes: &[u32]) -> Tested
+pub(crate) fn tested(rows: &[u32], widths: &[u32], types: &[u32], sizes: &[u32]) -> Tested
     ensures { λ r. ⌜ testOf r ≡ passing (declRules (declOf (now (rows .entry)) (now (widths .entry)) (now (types .entry)) (now (sizes .entry)))) ⌝ }
 {
     if let Tested::Refused(r) = shape_tested(rows, widths, types, sizes) {

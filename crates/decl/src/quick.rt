@@ -213,7 +213,7 @@ fn among(rows: &[u32], widths: &[u32], types: &[u32], sizes: &[u32]) -> Glance
 }
 
 // What one walk tells.
-pub fn looked_at(rows: &[u32], widths: &[u32], types: &[u32], sizes: &[u32]) -> Glance
+pub(crate) fn looked_at(rows: &[u32], widths: &[u32], types: &[u32], sizes: &[u32]) -> Glance
     ensures { λ r. ⌜ Settled (declOf (now (rows .entry)) (now (widths .entry)) (now (types .entry)) (now (sizes .entry))) r ⌝ }
 {
     if rows.len() == 0 {

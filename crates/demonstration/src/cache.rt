@@ -31,7 +31,7 @@ pub struct Cache {
     pub words: [u64; 6],
 }
 
-pub fn empty() -> Cache {
+pub(crate) fn empty() -> Cache {
     Cache {
         head: Head::flushed(0, 0, 0),
         generations: [0; 8],

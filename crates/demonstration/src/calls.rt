@@ -7,7 +7,7 @@ use crate::cache::WIDTHS;
 use crate::say;
 
 // A candidate with these bytes of its components, in column order.
-pub fn spawn(cache: Cache, archetype: u32, run: &[u8]) -> Cache {
+pub(crate) fn spawn(cache: Cache, archetype: u32, run: &[u8]) -> Cache {
     let mut generations = cache.generations;
     let mut archetypes = cache.archetypes;
     let mut indices = cache.indices;
@@ -47,7 +47,7 @@ pub fn spawn(cache: Cache, archetype: u32, run: &[u8]) -> Cache {
 }
 
 // The candidate and its row leave.
-pub fn despawn(cache: Cache, bits: u64) -> Cache {
+pub(crate) fn despawn(cache: Cache, bits: u64) -> Cache {
     let mut generations = cache.generations;
     let mut archetypes = cache.archetypes;
     let mut indices = cache.indices;
@@ -86,7 +86,7 @@ pub fn despawn(cache: Cache, bits: u64) -> Cache {
 }
 
 // The candidate holds this component, with these bytes.
-pub fn insert(cache: Cache, bits: u64, kind: u32, value: &[u8]) -> Cache {
+pub(crate) fn insert(cache: Cache, bits: u64, kind: u32, value: &[u8]) -> Cache {
     let generations = cache.generations;
     let mut archetypes = cache.archetypes;
     let mut indices = cache.indices;
@@ -127,7 +127,7 @@ pub fn insert(cache: Cache, bits: u64, kind: u32, value: &[u8]) -> Cache {
 }
 
 // The candidate holds this component no longer.
-pub fn remove(cache: Cache, bits: u64, kind: u32) -> Cache {
+pub(crate) fn remove(cache: Cache, bits: u64, kind: u32) -> Cache {
     let generations = cache.generations;
     let mut archetypes = cache.archetypes;
     let mut indices = cache.indices;
@@ -167,7 +167,7 @@ pub fn remove(cache: Cache, bits: u64, kind: u32) -> Cache {
 }
 
 // Every reserved candidate gets a row, in which it holds nothing.
-pub fn flush(cache: Cache) -> Cache {
+pub(crate) fn flush(cache: Cache) -> Cache {
     let mut generations = cache.generations;
     let mut archetypes = cache.archetypes;
     let mut indices = cache.indices;
@@ -205,7 +205,7 @@ pub fn flush(cache: Cache) -> Cache {
 }
 
 // Three handles, which no other caller gets, before their rows are made.
-pub fn reserve(cache: Cache) -> Cache {
+pub(crate) fn reserve(cache: Cache) -> Cache {
     let mut out = [0u64; 3];
     let generations = cache.generations;
     let archetypes = cache.archetypes;

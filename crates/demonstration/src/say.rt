@@ -6,35 +6,35 @@ use ids::Given;
 use refusal::Refusal;
 use refusal::Tested;
 
-pub fn text(words: &[u8]) {
+pub(crate) fn text(words: &[u8]) {
     io::write_all(1, words);
 }
 
-pub fn number(value: u64) {
+pub(crate) fn number(value: u64) {
     io::print_decimal(1, value);
 }
 
 // As 7v2: the number, then the generation.
-pub fn name(handle: Handle) {
+pub(crate) fn name(handle: Handle) {
     number(handle.id().0 as u64);
     text(b"v");
     number(handle.generation() as u64);
 }
 
-pub fn named(bits: u64) {
+pub(crate) fn named(bits: u64) {
     match Handle::from_bits(bits) {
         handle::Bits::Good(handle) => name(handle),
         handle::Bits::Refused(r) => refused(r),
     }
 }
 
-pub fn refused(refusal: Refusal) {
+pub(crate) fn refused(refusal: Refusal) {
     text(b"refused ");
     number(refusal.number() as u64);
 }
 
 // The handle, or the refusal; and the head to go on with.
-pub fn given(answer: Given, head: Head) -> Head {
+pub(crate) fn given(answer: Given, head: Head) -> Head {
     let after = match answer {
         Given::Entity(handle, after) => {
             name(handle);
@@ -50,7 +50,7 @@ pub fn given(answer: Given, head: Head) -> Head {
 }
 
 // That it was done, or the refusal; and the head to go on with.
-pub fn done(answer: Done, head: Head) -> Head {
+pub(crate) fn done(answer: Done, head: Head) -> Head {
     let after = match answer {
         Done::Granted(after) => {
             text(b"done");
@@ -66,7 +66,7 @@ pub fn done(answer: Done, head: Head) -> Head {
 }
 
 // The same of a call that leaves the head as it was.
-pub fn tested(answer: Tested, head: Head) -> Head {
+pub(crate) fn tested(answer: Tested, head: Head) -> Head {
     match answer {
         Tested::Passed => text(b"done"),
         Tested::Refused(r) => refused(r),

@@ -107,7 +107,7 @@ fn word_of(verdict: u64) {
 }
 
 // The verdict in a word, or the refusal of the read.
-pub fn verdict(cache: Cache, bits: u64) {
+pub(crate) fn verdict(cache: Cache, bits: u64) {
     match reading(cache, bits, VERDICT) {
         Read::Value(v) => word_of(v),
         Read::Refused(r) => say::refused(r),
@@ -116,7 +116,7 @@ pub fn verdict(cache: Cache, bits: u64) {
 }
 
 // A cost or a key, or the refusal of the read.
-pub fn component(cache: Cache, bits: u64, kind: u32) {
+pub(crate) fn component(cache: Cache, bits: u64, kind: u32) {
     match reading(cache, bits, kind) {
         Read::Value(v) => say::number(v),
         Read::Refused(r) => say::refused(r),
@@ -145,7 +145,7 @@ fn placed(cache: Cache, bits: u64) {
 }
 
 // A line of the table: the candidate, its place, and what it holds.
-pub fn candidate(cache: Cache, bits: u64) {
+pub(crate) fn candidate(cache: Cache, bits: u64) {
     say::text(b"  ");
     say::named(bits);
     placed(cache, bits);

@@ -121,7 +121,7 @@ fn looked(
     verdict_columns_ids(rows, widths, types, sizes, numbers, counts, bytes, a, out)
 }
 
-pub fn answer(
+pub(crate) fn answer(
     line: &[u64],
     rows: &[u32],
     widths: &[u32],

@@ -19,7 +19,7 @@ pub struct Tables {
     pub bytes: [u8; 64],
 }
 
-pub fn empty() -> Tables {
+pub(crate) fn empty() -> Tables {
     Tables {
         rows: [0; 6],
         widths: [0; 6],
@@ -56,7 +56,7 @@ fn bytes(line: &[u64], at: usize) -> [u8; 64] {
     table
 }
 
-pub fn told(line: &[u64]) -> Tables {
+pub(crate) fn told(line: &[u64]) -> Tables {
     Tables {
         rows: six(line, 1),
         widths: six(line, 7),
@@ -69,20 +69,20 @@ pub fn told(line: &[u64]) -> Tables {
 }
 
 // A part of an array is lent where its length is told.
-pub fn all_counts(table: [u32; 6]) -> [u32; 6]
+pub(crate) fn all_counts(table: [u32; 6]) -> [u32; 6]
     ensures { λ r. ⌜ 6 ≡ length r ⌝ }
 {
     table
 }
 
-pub fn all_bytes(table: [u8; 64]) -> [u8; 64]
+pub(crate) fn all_bytes(table: [u8; 64]) -> [u8; 64]
     ensures { λ r. ⌜ 64 ≡ length r ⌝ }
 {
     table
 }
 
 // The bytes that a call is lent beside the tables.
-pub fn values(line: &[u64]) -> [u8; 80]
+pub(crate) fn values(line: &[u64]) -> [u8; 80]
     ensures { λ r. ⌜ 80 ≡ length r ⌝ }
 {
     let mut values = [0u8; 80];
@@ -91,7 +91,7 @@ pub fn values(line: &[u64]) -> [u8; 80]
 }
 
 // How many they are.
-pub fn count(line: &[u64]) -> usize
+pub(crate) fn count(line: &[u64]) -> usize
     ensures { λ r. ⌜ r ≤ 80 ⌝ }
 {
     let told = part(line, 6, 80);
@@ -99,14 +99,20 @@ pub fn count(line: &[u64]) -> usize
 }
 
 // The declaration's digest, and that of the rows after it.
-pub fn declared(rows: &[u32], widths: &[u32], types: &[u32], sizes: &[u32]) -> u64 {
+pub(crate) fn declared(rows: &[u32], widths: &[u32], types: &[u32], sizes: &[u32]) -> u64 {
     let sum = digest_numbers(0, rows);
     let sum = digest_numbers(sum, widths);
     let sum = digest_numbers(sum, types);
     digest_numbers(sum, sizes)
 }
 
-pub fn digest(sum: u64, numbers: &[u32], counts: &[u32], bytes: &[u8], values: &[u8]) -> u64 {
+pub(crate) fn digest(
+    sum: u64,
+    numbers: &[u32],
+    counts: &[u32],
+    bytes: &[u8],
+    values: &[u8],
+) -> u64 {
     let sum = digest_numbers(sum, numbers);
     let sum = digest_numbers(sum, counts);
     let sum = digest_bytes(sum, bytes);

@@ -64,7 +64,7 @@ fn alloced(
     code
 }
 
-pub fn answer(
+pub(crate) fn answer(
     line: &[u64],
     head: &mut [u64; 4],
     generations: &mut [u32],

@@ -7,7 +7,7 @@ use exports_ids::verdict_ids_set_place;
 use replay_line::low;
 use replay_line::number;
 
-pub fn answer(
+pub(crate) fn answer(
     line: &[u64],
     head: &mut [u64; 4],
     generations: &mut [u32],

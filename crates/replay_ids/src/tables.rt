@@ -18,7 +18,7 @@ pub struct Tables {
     pub pending: [u32; 4097],
 }
 
-pub fn empty() -> Tables {
+pub(crate) fn empty() -> Tables {
     Tables {
         head: [0; 4],
         generations: [0; 4097],
@@ -41,7 +41,7 @@ fn table_told(line: &[u64], at: usize) -> [u32; 4097] {
     table
 }
 
-pub fn told(line: &[u64]) -> Tables {
+pub(crate) fn told(line: &[u64]) -> Tables {
     Tables {
         head: head_told(line),
         generations: table_told(line, 5),
@@ -52,14 +52,14 @@ pub fn told(line: &[u64]) -> Tables {
 }
 
 // A part of an array is lent where its length is told.
-pub fn whole(table: [u32; 4097]) -> [u32; 4097]
+pub(crate) fn whole(table: [u32; 4097]) -> [u32; 4097]
     ensures { λ r. ⌜ 4097 ≡ length r ⌝ }
 {
     table
 }
 
 // The words that a call is lent beside the tables.
-pub fn values(line: &[u64]) -> [u64; 80]
+pub(crate) fn values(line: &[u64]) -> [u64; 80]
     ensures { λ r. ⌜ 80 ≡ length r ⌝ }
 {
     let mut values = [0u64; 80];
@@ -68,14 +68,14 @@ pub fn values(line: &[u64]) -> [u64; 80]
 }
 
 // How many they are.
-pub fn count(line: &[u64]) -> usize
+pub(crate) fn count(line: &[u64]) -> usize
     ensures { λ r. ⌜ r ≤ 80 ⌝ }
 {
     let told = part(line, 6, 80);
     least(told.len() as u64, 80)
 }
 
-pub fn digest(
+pub(crate) fn digest(
     head: &[u64; 4],
     generations: &[u32],
     archetypes: &[u32],

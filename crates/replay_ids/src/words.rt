@@ -39,7 +39,7 @@ fn in_a_table(call: u64, words: &mut [u64], at: usize, out: &mut [u64; 4]) -> u3
 }
 
 // A word in place is answered as it is left.
-pub fn answer(line: &[u64], words: &mut [u64], out: &mut [u64; 4]) -> u32 {
+pub(crate) fn answer(line: &[u64], words: &mut [u64], out: &mut [u64; 4]) -> u32 {
     let call = number(line, 0);
     let a = number(line, 1);
     if call < 6 {

@@ -5,7 +5,7 @@ use exports_reads::verdict_store_write;
 use replay_line::low;
 use replay_line::number;
 
-pub fn answer(
+pub(crate) fn answer(
     line: &[u64],
     head: &[u64; 4],
     rows: &[u32],

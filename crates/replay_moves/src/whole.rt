@@ -3,7 +3,7 @@ use exports_moves::verdict_store_flush;
 use exports_reserve::verdict_store_clear;
 use replay_line::number;
 
-pub fn answer(
+pub(crate) fn answer(
     line: &[u64],
     head: &mut [u64; 4],
     rows: &[u32],

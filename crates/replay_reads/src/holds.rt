@@ -6,7 +6,7 @@ use exports_reads::verdict_store_release_mut;
 use replay_line::low;
 use replay_line::number;
 
-pub fn answer(
+pub(crate) fn answer(
     line: &[u64],
     head: &[u64; 4],
     rows: &[u32],

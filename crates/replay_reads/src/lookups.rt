@@ -7,7 +7,7 @@ use exports_reads::verdict_store_resolve_unknown_gen;
 use replay_line::low;
 use replay_line::number;
 
-pub fn answer(
+pub(crate) fn answer(
     line: &[u64],
     head: &[u64; 4],
     rows: &[u32],

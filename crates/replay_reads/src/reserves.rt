@@ -4,7 +4,7 @@ use exports_reserve::verdict_store_reserve_entities;
 use exports_reserve::verdict_store_reserve_entity;
 use replay_line::number;
 
-pub fn answer(
+pub(crate) fn answer(
     line: &[u64],
     head: &mut [u64; 4],
     rows: &[u32],

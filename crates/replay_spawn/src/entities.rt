@@ -5,7 +5,7 @@ use exports_store::verdict_store_spawn;
 use replay_line::low;
 use replay_line::number;
 
-pub fn answer(
+pub(crate) fn answer(
     line: &[u64],
     head: &mut [u64; 4],
     rows: &[u32],

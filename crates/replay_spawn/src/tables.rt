@@ -121,7 +121,7 @@ fn play_of(
     );
 }
 
-pub fn play(tables: &mut [u64], line: &[u64]) {
+pub(crate) fn play(tables: &mut [u64], line: &[u64]) {
     let mut head = replay_store_line::head(tables);
     let rows = six(tables, ROWS);
     let widths = six(tables, WIDTHS);
