@@ -3,7 +3,7 @@
 use Prim.Native.Nat.{ℕ}
 use mathlib.Core.List.{List}
 use mathlib.Core.Path.{_≡_, sym, _∙_}
-use Rattle.cells.specs.Cell.{written, partOf, readInto, copied}
+use Rattle.cells.specs.Cell.{written, partOf, copied}
 use Rattle.cells.specs.Line.{cellOf, nextOf, pastOf, carried, transferred, told, lineTold}
 use Rattle.cells.specs.declared.Line.{Line}
 
@@ -19,9 +19,6 @@ write bytes at value = one (written bytes at value)
 
 pub part : (bytes : List ℕ) (at size : ℕ) → One (partOf bytes at size)
 part bytes at size = one (partOf bytes at size)
-
-pub read : (bytes : List ℕ) (at : ℕ) (out : List ℕ) → One (readInto bytes at out)
-read bytes at out = one (readInto bytes at out)
 
 pub copy : (bytes : List ℕ) (from to size : ℕ) → One (copied bytes from to size)
 copy bytes from to size = one (copied bytes from to size)

@@ -10,7 +10,7 @@ use borrow.Author.Tests.{le-leb, lt-leb, leb-true}
 use lib.Dec.{leb}
 use lib.ListN.{length, getD, take, drop, length-append, length-take, length-drop, drop-of-length-le}
 use lib.Seq.{length-take-le, take-at, drop-at, take-append-le, take-take, take-add, drop-drop, getD-take, getD-drop, paste-zero}
-use Rattle.cells.specs.Cell.{cell, put, fits, copies, Copies, written, partOf, readInto, copied}
+use Rattle.cells.specs.Cell.{cell, put, fits, copies, Copies, written, partOf, copied}
 
 -- the n bytes at `at` and the m at o have none in common
 abbrev pub Apart : ℕ → ℕ → ℕ → ℕ → Type 0
@@ -152,21 +152,6 @@ module _ (b : List ℕ) (at : ℕ) where
   pub part-short : (n : ℕ) → length (partOf b at n) ≤ n
   unfolding partOf
   part-short n = cases (λ l. length l ≤ n) (fits (length b) at n) (λ e. rw (length-cell b at n (leb-true _ _ e)) (omega arith)) (omega arith)
-
-  -- a read is that part put over the bytes to be filled
-  pub read-part : (out : List ℕ) → written out 0 (partOf b at (length out)) ≡ readInto b at out
-  unfolding partOf readInto
-  read-part out = by-test (fits (length b) at (length out)) refl
-    where
-      by-test : (t : Bool) → fits (length b) at (length out) ≡ t → written out 0 (cond t (cell b at (length out)) []) ≡ cond t (cell b at (length out)) out
-      by-test true e =
-          let l = length-cell b at (length out) (leb-true _ _ e) in
-          written-fits out 0 (cell b at (length out)) (omega arith) ∙ put-whole out (cell b at (length out)) l
-      by-test false e = written-fits out 0 [] (omega arith) ∙ put-none out 0
-
-  pub read-fits : (out : List ℕ) → at + length out ≤ length b → readInto b at out ≡ cell b at (length out)
-  unfolding readInto
-  read-fits out h = simp (le-leb _ _ h)
 
 -- A copy: the test of its two runs is that they lie so.
 both : (s t : Bool) → (s && t) ≡ true → (s ≡ true) × (t ≡ true)

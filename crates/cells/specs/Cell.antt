@@ -28,15 +28,12 @@ pub record Copies (len from to n : ℕ) : Type 0 where
   pub target : to + n ≤ len
   pub apart : (from + n ≤ to) ⊎ (to + n ≤ from)
 
--- a write; the part that is read, and what a read leaves of the bytes to be filled; a copy
+-- a write; the part that is read; a copy
 unfoldable pub written : List ℕ → ℕ → List ℕ → List ℕ
 written b at vs = cond (fits (length b) at (length vs)) (put b at vs) b
 
 unfoldable pub partOf : List ℕ → ℕ → ℕ → List ℕ
 partOf b at n = cond (fits (length b) at n) (cell b at n) []
-
-unfoldable pub readInto : List ℕ → ℕ → List ℕ → List ℕ
-readInto b at out = cond (fits (length b) at (length out)) (cell b at (length out)) out
 
 unfoldable pub copied : List ℕ → ℕ → ℕ → ℕ → List ℕ
 copied b from to n = cond (copies (length b) from to n) (put b to (cell b from n)) b

@@ -2,7 +2,7 @@
 ghost use mathlib.Core.Path.{_≡_};
 ghost use Prim.Native.Nat.{_+_, _*_, _≤_};
 ghost use lib.ListN.{length};
-ghost use Rattle.cells.specs.Cell.{cell, put, Copies, written, partOf, readInto, copied};
+ghost use Rattle.cells.specs.Cell.{cell, put, Copies, written, partOf, copied};
 ghost use Rattle.cells.specs.Cell.{fits, copies as copying};
 ghost use Rattle.cells.specs.Line.{cellOf, nextOf, pastOf, runLine, told, lineTold, carried, transferred};
 
@@ -73,14 +73,6 @@ pub fn part(bytes: &[u8], at: usize, size: usize) -> &[u8]
         return &bytes[at..at + size];
     }
     &bytes[0..0]
-}
-
-// Fills `out` with the bytes at `at`.
-pub fn read(bytes: &[u8], at: usize, out: &mut [u8])
-    ensures { λ _. ⌜ now (out .exit) ≡ readInto (now (bytes .entry)) at (now (out .entry)) ⌝ }
-{
-    let value = part(bytes, at, out.len());
-    write(out, 0, value);
 }
 
 pub fn copy(bytes: &mut [u8], from: usize, to: usize, size: usize)

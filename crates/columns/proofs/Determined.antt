@@ -9,7 +9,6 @@ use Rattle.refusal.specs.Distinct.{number-inj}
 use Rattle.handle.specs.declared.Row.{Row}
 use Rattle.handle.specs.RoundTrip.{same-number}
 use Rattle.decl.specs.Decl.{Decl}
-use Rattle.cells.specs.declared.Line.{Line}
 use Rattle.row_step.specs.Tables.{Rows}
 use Rattle.columns.specs.declared.Allocated.{Allocated}
 use Rattle.columns.specs.declared.Allocated.the-variants as allocated
@@ -20,7 +19,6 @@ use Rattle.columns.specs.declared.Stored.the-variants as stored
 use Rattle.columns.specs.declared.Found.{Found}
 use Rattle.columns.specs.declared.Found.the-variants as found
 use Rattle.columns.specs.Calls.{allocatedOf, removedOf, storedOf, foundOf, allocatedIn, removedIn, movedOut, putIn, gotIn, idsIn, partFor}
-use Rattle.columns.specs.Find.{cellIn}
 
 same-row : (x y : Row) → x .0 ≡ y .0 → x ≡ y
 same-row x y q = λ i. record { 0 = q i }
@@ -77,9 +75,6 @@ OnePlace rule = (r s : Found) → foundOf r ≡ rule → foundOf s ≡ rule → 
 
 place : (rule : Answer (ℕ × ℕ)) → OnePlace rule
 place rule r s p q = sole-answer foundOf found-tells r s p q
-
-pub find-cell : (types sizes : List ℕ) (line : Line) (t : ℕ) → OnePlace (cellIn types sizes line t)
-find-cell types sizes line t = place (cellIn types sizes line t)
 
 pub get : (d : Decl) (w : Rows) (a row t : ℕ) → OnePlace (gotIn d w a row t)
 get d w a row t = place (gotIn d w a row t)

@@ -1,4 +1,4 @@
--- The step of put and get: the cell of a type in one row, by the types and sizes of its columns. It takes any of them.
+-- What a private step of put and get promises: the cell of a type in one row, by the types and sizes of its columns. It takes any of them.
 use Prim.Native.Nat.{ℕ}
 use mathlib.Core.List.{List, [], _∷_}
 use lib.Dec.{leb}

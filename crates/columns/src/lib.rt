@@ -428,7 +428,7 @@ fn put_tested(
 }
 
 // The cell of a type in a row of columns of these types and sizes.
-pub fn find_cell(types: &[u32], sizes: &[u32], line: Line, kind: u32) -> Found
+fn find_cell(types: &[u32], sizes: &[u32], line: Line, kind: u32) -> Found
     ensures { λ r. ⌜ foundOf r ≡ cellIn (now (types .entry)) (now (sizes .entry)) line kind ⌝ }
 {
     let Column::At(j) = decl::find(types, kind) else {
