@@ -15,8 +15,7 @@ use Rattle.decl.specs.declared.Span.{Span}
 use Rattle.store_tables.specs.Store.{Store}
 use Rattle.store_tables.specs.Rows.{archetypeOf, rowOf, movedDamaged}
 use Rattle.store_tables.specs.Kept.{Entered}
-use Rattle.store_tables.specs.Seen.{movedSeen}
-use Rattle.store_tables.specs.Entities.{entitySeen}
+use Rattle.store_tables.specs.Seen.{movedSeen, entitySeen}
 use Rattle.store_tables.proofs.Places.{moved-seen}
 use Rattle.store_tables.proofs.Entities.{entity-first, entity-refused, entity-goes, entity-span, entity-place}
 use Rattle.store_despawn.specs.Despawn.{despawnRules}

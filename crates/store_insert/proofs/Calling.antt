@@ -25,7 +25,7 @@ use Rattle.store_tables.specs.Store.{Store, entry}
 use Rattle.store_tables.specs.Rows.{archetypeOf, owns}
 use Rattle.store_tables.specs.Kept.{Entered}
 use Rattle.store_tables.proofs.Entering.{entered-right}
-use Rattle.store_tables.specs.Entities.{entitySeen}
+use Rattle.store_tables.specs.Seen.{entitySeen}
 use Rattle.store_tables.proofs.Entities.{entity-refused, entity-passed, entity-goes, entity-span, entity-place, entity-ok}
 use Rattle.store_insert.specs.Insert.{insertedAt, inserted, inserting}
 

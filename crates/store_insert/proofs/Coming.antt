@@ -49,7 +49,8 @@ use Rattle.store_moves.proofs.Moving.{all-small, all-in, has-moved}
 use Rattle.store_moves.proofs.Owning.{column-in, moving}
 use Rattle.store_insert.specs.declared.Way.{Way}
 use Rattle.store_insert.specs.declared.Way.the-variants.{Over, Into}
-use Rattle.store_insert.specs.Insert.{overwritten, insertedAt, wayInto, wayFor, wayOf}
+use Rattle.store_insert.specs.Insert.{overwritten, insertedAt}
+use Rattle.store_insert.specs.Seen.{wayInto, wayFor, wayOf}
 
 -- what the tests said, once the answer has been taken apart
 pub way-said : {a : Answer Way} (r t : Way) → wayOf r ≡ a → r ≡ t → wayOf t ≡ a

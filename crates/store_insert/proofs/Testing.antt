@@ -30,7 +30,7 @@ use Rattle.store_moves.specs.Steps.{moveSeen}
 use Rattle.store_moves.proofs.Passing.{move-told}
 use Rattle.store_moves.proofs.Owning.{own-is, column-found, found-none, found-some}
 use Rattle.store_insert.specs.declared.Way.the-variants.{Over, Into}
-use Rattle.store_insert.specs.Insert.{wayInto, wayFor}
+use Rattle.store_insert.specs.Seen.{wayInto, wayFor}
 
 module _ (s : Store) (e : Entered s) (n : ℕ) (span : Span) (p : span ≡ spanOf (s .decl) (archetypeOf s n))
     (own : List ℕ) (o : own ≡ partBy (s .decl .types) span) (t : ℕ) (c : Column) (f : c ≡ searched own t) where

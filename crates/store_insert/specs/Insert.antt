@@ -3,9 +3,7 @@ use Prim.{Unit, tt}
 use Prim.Native.Nat.{ℕ}
 use mathlib.Core.List.{List, [], _∷_}
 use lib.ListN.{length}
-use mathlib.Core.Option.{Option, none, some}
-use Rattle.refusal.specs.Number.{numberOf}
-use Rattle.refusal.specs.Table.{_when_, Answer, granted, refused, _orElse_, _otherwise_}
+use Rattle.refusal.specs.Table.{_when_, Answer, _orElse_, _otherwise_}
 use Rattle.handle.specs.OnBits.{onBits}
 use Rattle.borrow_word.specs.Slice.{anyHeld}
 use Rattle.decl.specs.Decl.{typesOf}
@@ -19,10 +17,8 @@ use Rattle.column_entry.specs.Entry.{wrongSize}
 use Rattle.store_tables.specs.Store.{Store, withRows, entry}
 use Rattle.store_tables.specs.Rows.{archetypeOf, rowOf}
 use Rattle.store_tables.specs.Entities.{entityRules}
-use Rattle.store_moves.specs.Target.{typesBefore, withType, targetOf}
-use Rattle.store_moves.specs.Moves.{moveRules, runWith, movedInto}
-use Rattle.store_insert.specs.declared.Way.{Way}
-use Rattle.store_insert.specs.declared.Way.the-variants.{Over, Into, Refused}
+use Rattle.store_moves.specs.Target.{withType, targetOf}
+use Rattle.store_moves.specs.Moves.{runWith, movedInto}
 
 -- the value in column j of number n's row
 unfoldable pub overwritten : Store → ℕ → ℕ → List ℕ → Store
@@ -41,18 +37,3 @@ inserted s t value generation n =
 -- 13: a value of another length than its type's, where that type is declared
 unfoldable pub inserting : Store → ℕ → ℕ → List ℕ → Answer (Unit {0} × Store)
 inserting s bits t value = onBits (entry s (wrongSize (s .decl .types) (s .decl .sizes) t (length value))) bits (inserted s t value)
-
--- what the tests of an insert find: the column of a component that is held; or the target, and the type's column there
-unfoldable pub wayInto : Store → ℕ → ℕ → Option ℕ → Answer Way
-wayInto s n j none = refused 14
-wayInto s n j (some b) = moveRules s n b otherwise Into j b
-
-unfoldable pub wayFor : Store → ℕ → ℕ → Column → Answer Way
-wayFor s n t (At j) = 8 when anyHeld (s .words) ∷ [] otherwise Over j
-wayFor s n t Missing =
-    wayInto s n (typesBefore t (typesOf (s .decl) (archetypeOf s n))) (targetOf (s .decl) (withType t (typesOf (s .decl) (archetypeOf s n))))
-
-abbrev pub wayOf : Way → Answer Way
-wayOf (Over j) = granted (Over j)
-wayOf (Into j b) = granted (Into j b)
-wayOf (Refused r) = refused (numberOf r)

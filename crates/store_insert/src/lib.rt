@@ -43,7 +43,8 @@ ghost use Rattle.store_moves.specs.Target.{typesBefore, withType};
 ghost use Rattle.store_moves.specs.Moves.{runWith};
 ghost use Rattle.store_moves.specs.Steps.{movedSeats};
 ghost use Rattle.store_moves.specs.Kept.{Moving};
-ghost use Rattle.store_insert.specs.Insert.{wayFor, wayOf, insertedAt, inserting};
+ghost use Rattle.store_insert.specs.Insert.{insertedAt, inserting};
+ghost use Rattle.store_insert.specs.Seen.{wayFor, wayOf};
 
 // The bytes of the widest row: 16 columns of 64 bytes.
 const ROOM: usize = 1024;

@@ -15,7 +15,7 @@ use Rattle.decl.specs.declared.Span.{Span}
 use Rattle.store_tables.specs.Store.{Store}
 use Rattle.store_tables.specs.Rows.{archetypeOf, owns}
 use Rattle.store_tables.specs.Kept.{Entered}
-use Rattle.store_tables.specs.Entities.{entitySeen}
+use Rattle.store_tables.specs.Seen.{entitySeen}
 use Rattle.store_tables.proofs.Entities.{entity-refused, entity-passed, entity-goes, entity-span, entity-place, entity-ok}
 use Rattle.store_remove.specs.Remove.{removedAt, removed}
 

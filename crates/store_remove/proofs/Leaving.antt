@@ -34,7 +34,8 @@ use Rattle.store_moves.proofs.Moving.{has-moved}
 use Rattle.store_moves.proofs.Owning.{column-in, moving}
 use Rattle.store_remove.specs.declared.Way.{Way}
 use Rattle.store_remove.specs.declared.Way.the-variants.{From}
-use Rattle.store_remove.specs.Remove.{removedAt, wayInto, wayFor, wayOf}
+use Rattle.store_remove.specs.Remove.{removedAt}
+use Rattle.store_remove.specs.Seen.{wayInto, wayFor, wayOf}
 
 -- what the tests said, once the answer has been taken apart
 pub way-said : {a : Answer Way} (r t : Way) → wayOf r ≡ a → r ≡ t → wayOf t ≡ a

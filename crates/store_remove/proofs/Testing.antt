@@ -28,7 +28,7 @@ use Rattle.store_moves.specs.Steps.{moveSeen}
 use Rattle.store_moves.proofs.Passing.{move-told}
 use Rattle.store_moves.proofs.Owning.{column-found, found-none, found-some}
 use Rattle.store_remove.specs.declared.Way.the-variants.{From}
-use Rattle.store_remove.specs.Remove.{wayInto, wayFor}
+use Rattle.store_remove.specs.Seen.{wayInto, wayFor}
 
 module _ (s : Store) (e : Entered s) (n : ℕ) (span : Span) (p : span ≡ spanOf (s .decl) (archetypeOf s n)) (place : Place) (q : place ≡ placeAt (s .ids) n)
     (own : List ℕ) (o : own ≡ partBy (s .decl .types) span) (t : ℕ) (c : Column) (f : c ≡ searched own t) where

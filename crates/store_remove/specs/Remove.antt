@@ -2,9 +2,7 @@
 use Prim.{Unit}
 use Prim.Native.Nat.{ℕ}
 use mathlib.Core.Bool.{false}
-use mathlib.Core.Option.{Option, none, some}
-use Rattle.refusal.specs.Number.{numberOf}
-use Rattle.refusal.specs.Table.{Answer, granted, refused, _orElse_, _otherwise_}
+use Rattle.refusal.specs.Table.{Answer, refused, _orElse_}
 use Rattle.handle.specs.OnBits.{onBits}
 use Rattle.decl.specs.Decl.{typesOf}
 use Rattle.decl.specs.Lookup.{columnOf}
@@ -14,9 +12,7 @@ use Rattle.store_tables.specs.Store.{Store, entry}
 use Rattle.store_tables.specs.Rows.{archetypeOf, rowOf}
 use Rattle.store_tables.specs.Entities.{entityRules}
 use Rattle.store_moves.specs.Target.{withoutType, targetOf}
-use Rattle.store_moves.specs.Moves.{moveRules, runWithout, movedInto}
-use Rattle.store_remove.specs.declared.Way.{Way}
-use Rattle.store_remove.specs.declared.Way.the-variants.{From, Refused}
+use Rattle.store_moves.specs.Moves.{runWithout, movedInto}
 
 -- 15: a component not held; else the row's types with that type taken are the target's
 unfoldable pub removedAt : Store → ℕ → Column → Answer (Unit {0} × Store)
@@ -28,16 +24,3 @@ removed s t generation n = entityRules s generation n orElse removedAt s n (colu
 
 unfoldable pub removing : Store → ℕ → ℕ → Answer (Unit {0} × Store)
 removing s bits t = onBits (entry s false) bits (removed s t)
-
--- what the tests of a remove find: the component's column, and the target
-unfoldable pub wayInto : Store → ℕ → ℕ → Option ℕ → Answer Way
-wayInto s n j none = refused 14
-wayInto s n j (some b) = moveRules s n b otherwise From j b
-
-unfoldable pub wayFor : Store → ℕ → Column → Answer Way
-wayFor s n Missing = refused 15
-wayFor s n (At j) = wayInto s n j (targetOf (s .decl) (withoutType j (typesOf (s .decl) (archetypeOf s n))))
-
-abbrev pub wayOf : Way → Answer Way
-wayOf (From j b) = granted (From j b)
-wayOf (Refused r) = refused (numberOf r)

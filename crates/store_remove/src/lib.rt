@@ -35,7 +35,8 @@ ghost use Rattle.store_moves.specs.Target.{withoutType};
 ghost use Rattle.store_moves.specs.Moves.{runWithout};
 ghost use Rattle.store_moves.specs.Steps.{movedSeats};
 ghost use Rattle.store_moves.specs.Kept.{Moving};
-ghost use Rattle.store_remove.specs.Remove.{wayFor, wayOf, removedAt, removing};
+ghost use Rattle.store_remove.specs.Remove.{removedAt, removing};
+ghost use Rattle.store_remove.specs.Seen.{wayFor, wayOf};
 
 // The bytes of the widest row: 16 columns of 64 bytes.
 const ROOM: usize = 1024;

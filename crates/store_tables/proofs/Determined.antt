@@ -18,8 +18,7 @@ use Rattle.store_tables.specs.declared.Own.the-variants.{At, Damaged}
 use Rattle.store_tables.specs.declared.Entity.{Entity}
 use Rattle.store_tables.specs.declared.Entity.the-variants as entity
 use Rattle.store_tables.specs.Store.{Store, entry}
-use Rattle.store_tables.specs.Seen.{ownSeen, ownOf, movedSeen}
-use Rattle.store_tables.specs.Entities.{entitySeen, entityOf}
+use Rattle.store_tables.specs.Seen.{ownSeen, ownOf, movedSeen, entitySeen, entityOf}
 
 own-tells : (r s : Own) → ownOf r ≡ ownOf s → r ≡ s
 own-tells (At a) (At b) e = ap At (cc)

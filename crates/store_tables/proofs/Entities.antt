@@ -18,8 +18,8 @@ use Rattle.store_tables.specs.declared.Entity.{Entity}
 use Rattle.store_tables.specs.Store.{Store}
 use Rattle.store_tables.specs.Rows.{archetypeOf, rowOf, owns}
 use Rattle.store_tables.specs.Kept.{Entered}
-use Rattle.store_tables.specs.Seen.{ownSeen}
-use Rattle.store_tables.specs.Entities.{entityRules, entitySeen, entityOf}
+use Rattle.store_tables.specs.Seen.{ownSeen, entitySeen, entityOf}
+use Rattle.store_tables.specs.Entities.{entityRules}
 use Rattle.store_tables.proofs.Places.{owned, not-owned}
 
 -- what passing the tests of an entity gives

@@ -17,8 +17,7 @@ use Rattle.decl.specs.declared.Span.{Span}
 use Rattle.column_entry.specs.Entry.{spanIn}
 use Rattle.store_tables.specs.declared.Own.{Own}
 use Rattle.store_tables.specs.declared.Own.the-variants.{At, Damaged}
-use Rattle.store_tables.specs.Seen.{ownSeen, ownOf, movedSeen}
-use Rattle.store_tables.specs.Entities.{entitySeen}
+use Rattle.store_tables.specs.Seen.{ownSeen, ownOf, movedSeen, entitySeen}
 
 module _ (d : Decl) (numbers counts : List ℕ) (a r n : ℕ) where
   pub no-archetype : archetypes d ≤ a → none ≡ ownSeen d numbers counts a r n

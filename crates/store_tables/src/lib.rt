@@ -20,8 +20,7 @@ ghost use Rattle.decl.specs.Decl.{declOf};
 ghost use Rattle.id_tables.specs.Ids.{idsOf};
 ghost use Rattle.row_step.specs.Tables.{tablesOf};
 ghost use Rattle.store_tables.specs.Store.{storeOf, lentRules, entry};
-ghost use Rattle.store_tables.specs.Seen.{ownSeen, ownOf, movedSeen};
-ghost use Rattle.store_tables.specs.Entities.{entitySeen, entityOf};
+ghost use Rattle.store_tables.specs.Seen.{ownSeen, ownOf, movedSeen, entitySeen, entityOf};
 pub use run::is_run_wrong;
 
 // A place is a row that holds the number, in an archetype with this part of the tables; or it is not.
