@@ -6,7 +6,7 @@ use Rattle.handle.specs.Bits.{numberIn}
 use Rattle.ids.proofs.Laws.{good-chosen}
 use Rattle.store_tables.specs.Store.{Store}
 use Rattle.store_tables.proofs.Entering.{entered-right}
-use Rattle.store_spawn.proofs.Granting.{right-run}
+use Rattle.store_tables.proofs.Running.{right-run}
 use Rattle.store_spawn_at.proofs.Laws.{spawning-at-parts}
 use Rattle.store_spawn_at.proofs.Refusing.{spawning-at-lines}
 use Rattle.store_moves.proofs.Seeking.{target-means}

@@ -1,38 +1,21 @@
 -- When spawn is granted, and what it leaves then, for callers that do not open its rule.
 -- Assumes nothing.
-use Prim.Native.Nat.{ℕ, _<_}
-use mathlib.Core.Path.{_≡_, refl}
-use mathlib.Core.Bool.{Bool, true, false, _&&_}
+use Prim.Native.Nat.{ℕ}
+use mathlib.Core.Path.{_≡_}
 use mathlib.Core.List.{List, _++_}
-use borrow.Author.Tests.{lt-ltb, eq-eqb, eqb-true, not-false}
-use lib.Dec.{ltb}
 use lib.ListN.{length}
 use Rattle.refusal.specs.Table.{granted}
 use Rattle.refusal.specs.Laws.{passed-all, both}
-use Rattle.decl.specs.Decl.{Decl, archetypes}
 use Rattle.decl.specs.Places.{rowWidth}
 use Rattle.store_tables.specs.Store.{Store, entry}
 use Rattle.store_tables.specs.Kept.{Entered}
 use Rattle.store_tables.proofs.Entering.{entered, entered-right}
 use Rattle.store_tables.proofs.Passing.{entered-passes}
+use Rattle.store_tables.proofs.Running.{run-right, right-run}
 use Rattle.store_tables.specs.Run.{runWrong}
 use Rattle.store_spawn.specs.Spawn.{nextIds, spawnRules, withEntity, spawned, spawning}
 use Rattle.store_spawn.proofs.Laws.{SpawnOk, spawn-ok, ok-spawn}
 use Rattle.store_spawn.proofs.Taking.{then-grant}
-
--- the run is of the row's width
-module _ (d : Decl) (a : ℕ) (run : List ℕ) where
-  pub run-right : length run ≡ rowWidth d a → runWrong d a run ≡ false
-  unfolding runWrong
-  run-right e = rw (eq-eqb (length run) (rowWidth d a) e) (none (ltb a (archetypes d)))
-    where
-      none : (b : Bool) → (b && false) ≡ false
-      none true = refl
-      none false = refl
-
-  pub right-run : a < archetypes d → runWrong d a run ≡ false → length run ≡ rowWidth d a
-  unfolding runWrong
-  right-run h e = eqb-true _ _ (not-false _ (rw (lt-ltb a (archetypes d) h) at e))
 
 module _ (s : Store) (a : ℕ) (run : List ℕ) where
   pub spawning-parts : {x : ℕ × Store} → granted x ≡ spawning s a run

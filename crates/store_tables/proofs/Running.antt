@@ -1,18 +1,19 @@
--- The first tests of a call that is given a run, whose length is looked at before the declaration is known to be good.
+-- The run that a call is given: when it is of the right length, and the first tests of the call, which look at the length before the declaration is known to be good.
 -- Assumes nothing.
 use Prim.{Unit, tt}
-use Prim.Native.Nat.{ℕ}
+use Prim.Native.Nat.{ℕ, _<_}
 use native.Mathlib.Omega.{arith}
 use mathlib.Core.Path.{_≡_, refl, sym, ap, _∙_}
 use mathlib.Core.Bool.{Bool, true, false, not, _&&_}
 use mathlib.Core.List.{List}
 use lib.Dec.{ltb, eqb}
 use lib.ListN.{length}
-use borrow.Author.Tests.{ltb-true}
+use borrow.Author.Tests.{ltb-true, lt-ltb, eq-eqb, eqb-true, not-false}
 use Rattle.refusal.specs.Table.{Answer, granted, refused, passing}
 use Rattle.id_tables.specs.Ids.{capacity, capacityRules}
 use Rattle.decl.specs.Decl.{Decl, archetypes}
 use Rattle.decl.specs.Rules.{declRules}
+use Rattle.decl.specs.Places.{rowWidth}
 use Rattle.decl.specs.declared.Span.{Span}
 use Rattle.column_entry.specs.Entry.{spanIn, tableRules}
 use Rattle.column_entry.proofs.Keeping.{kept, tabled, span-kept}
@@ -47,3 +48,17 @@ module _ (d : Decl) (a : ℕ) (run : List ℕ) (span : Span) (p : span ≡ spanI
 pub first-tests : (s : Store) (a : ℕ) (run : List ℕ) (span : Span) (short : Bool) → span ≡ spanIn (s .decl) a
     → short ≡ (ltb a (archetypes (s .decl)) && not (eqb (length run) (span .bytes))) → passing (entry s short) ≡ passing (entry s (runWrong (s .decl) a run))
 first-tests s a run span short p q = same-entry s short (runWrong (s .decl) a run) (λ e. q ∙ width-seen (s .decl) a run span p e)
+
+-- where the run is of the row's width
+module _ (d : Decl) (a : ℕ) (run : List ℕ) where
+  pub run-right : length run ≡ rowWidth d a → runWrong d a run ≡ false
+  unfolding runWrong
+  run-right e = rw (eq-eqb (length run) (rowWidth d a) e) (none (ltb a (archetypes d)))
+    where
+      none : (b : Bool) → (b && false) ≡ false
+      none true = refl
+      none false = refl
+
+  pub right-run : a < archetypes d → runWrong d a run ≡ false → length run ≡ rowWidth d a
+  unfolding runWrong
+  right-run h e = eqb-true _ _ (not-false _ (rw (lt-ltb a (archetypes d) h) at e))
