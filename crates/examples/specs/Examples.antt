@@ -147,7 +147,7 @@ six-at cursor =
 
 -- K7: one number at the last generation
 last : Ids
-last = idsOf (flushedHead 1 0 1) (MAX ∷ []) (0 ∷ []) (0 ∷ []) (0 ∷ [])
+last = tables (flushedHead 1 0 1) (MAX ∷ replicate 15 0) (replicate 16 0) (replicate 16 0)
 
 -- K8: after 5v9 on empty tables
 chosen : Ids
@@ -274,7 +274,7 @@ wanted =
     ∷ whole two-free
     ∷ granted []
     -- K7: free at generation MAX leaves 1
-    ∷ granted (1 ∷ [])
+    ∷ granted (1 ∷ replicate 15 0)
     -- K8: alloc at 5v9 on empty: used 6, pending [0,1,2,3,4], live 1; then at 2v1: pending [0,1,4,3]; 15 fits, 16 gives 4
     ∷ whole chosen
     ∷ granted (6 ∷ 2 ∷ 0 ∷ 1 ∷ 4 ∷ 3 ∷ [])
