@@ -4,7 +4,7 @@ use mathlib.Core.List.{List}
 use lib.ListN.{length, getD}
 use Rattle.decl.specs.Lists.{firstOf, partOf}
 
--- rows and columns an archetype; types and sizes one a column
+-- rows and widths, one an archetype; types and sizes, one a column
 pub record Decl : Type 0 where
   pub rows : List ℕ
   pub widths : List ℕ

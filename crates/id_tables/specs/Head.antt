@@ -28,7 +28,7 @@ flushedHead used pending live = record { used = used; pending = pending; cursor 
 abbrev pub fallen : Head → ℕ → Head
 fallen h n = record { used = h .used; pending = h .pending; cursor = h .cursor -ℤ pos n; live = h .live }
 
--- the same where 64 bits hold that cursor, and else the head as it is
+-- the same where 64 bits hold that cursor, and else the head as it is: a step's promise, of which no rule speaks
 unfoldable pub fallenFit : Head → ℕ → Head
 fallenFit h n = cond (leb (newOf (h .cursor) + n) (2 ^ 63)) (fallen h n) h
 

@@ -32,7 +32,7 @@ up-from-at n zero i h = absurd (not-suc-le-zero h)
 up-from-at n (suc k) zero h = omega arith
 up-from-at n (suc k) (suc i) h = up-from-at (n + 1) k i (le-of-suc-le-suc h) ∙ omega arith
 
--- one of these is n or more
+-- one of these is n or more: a step's promise, of which no rule speaks
 unfoldable pub anyPast : ℕ → List ℕ → Bool
 anyPast n [] = false
 anyPast n (m ∷ ms) = leb n m || anyPast n ms
