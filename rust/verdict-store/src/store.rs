@@ -281,6 +281,13 @@ impl VerdictStore {
         None
     }
 
+    /// The bytes of a component of this type, the same in all archetypes; none
+    /// where no archetype has the type.
+    pub(crate) fn size_of_type(&self, kind: u32) -> Option<u32> {
+        let column = self.types.iter().position(|declared| *declared == kind)?;
+        Some(self.sizes[column])
+    }
+
     /// The entities of an archetype, in the order of their rows.
     pub fn entities(&self, archetype: u32) -> Result<Entities<'_>, Refusal> {
         let rows = self.rows_of(archetype)?;
