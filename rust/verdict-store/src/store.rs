@@ -270,11 +270,16 @@ impl VerdictStore {
 
     /// The archetype of these type numbers, given in ascending order.
     pub fn archetype_of_types(&self, kinds: &[u32]) -> Option<u32> {
+        self.archetype_and_sizes(kinds).map(|(archetype, _)| archetype)
+    }
+
+    /// The archetype of these type numbers, and the sizes of its columns.
+    pub(crate) fn archetype_and_sizes(&self, kinds: &[u32]) -> Option<(u32, &[u32])> {
         let mut first = 0;
         for (archetype, width) in self.widths.iter().enumerate() {
             let next = first + *width as usize;
             if self.types[first..next] == *kinds {
-                return Some(archetype as u32);
+                return Some((archetype as u32, &self.sizes[first..next]));
             }
             first = next;
         }

@@ -1,49 +1,76 @@
 //! The same calls with values in place of bytes.
 
 use crate::component::Bytes;
-use crate::{Bundle, Component, Entity, Refusal, VerdictStore};
+use crate::{Bundle, Component, Entity, Refusal, VerdictStore, COLUMNS, SIZE};
 
 /// The widest row: sixteen columns of 64 bytes.
-const WIDEST: usize = 16 * 64;
+const WIDEST: usize = COLUMNS * SIZE as usize;
 
-/// A row's bytes in ascending type number, and its types.
+/// A component of a tuple: its size as given, and its bytes as far as a column can hold them.
+#[derive(Clone, Copy)]
+struct Given {
+    kind: u32,
+    size: u32,
+    kept: [u8; SIZE as usize],
+}
+
+impl Given {
+    const NOTHING: Given = Given { kind: 0, size: 0, kept: [0; SIZE as usize] };
+
+    fn new(kind: u32, bytes: &[u8]) -> Given {
+        let mut given = Given { kind, ..Given::NOTHING };
+        given.size = u32::try_from(bytes.len()).unwrap_or(u32::MAX);
+        let kept = bytes.len().min(given.kept.len());
+        given.kept[..kept].copy_from_slice(&bytes[..kept]);
+        given
+    }
+
+    fn bytes(&self) -> &[u8] {
+        let size = self.size.min(SIZE) as usize;
+        &self.kept[..size]
+    }
+}
+
+/// The components of a tuple in ascending type number: their types, their sizes, and
+/// their bytes one after the other.
 struct Row {
-    kinds: [u32; 16],
+    kinds: [u32; COLUMNS],
+    sizes: [u32; COLUMNS],
     columns: usize,
     bytes: [u8; WIDEST],
     length: usize,
 }
 
 impl Row {
-    /// The row of a tuple: none where it is no row of any archetype, a type twice
-    /// or too many bytes.
+    /// The row of a tuple; none where it has more components than an archetype can have.
     fn of(bundle: &impl Bundle) -> Option<Row> {
-        let mut parts = [(0u32, 0usize, 0usize); 16];
-        let (mut columns, mut given, mut gathered) = (0, 0, [0; WIDEST]);
-        let mut fits = true;
+        let (mut given, mut columns) = ([Given::NOTHING; COLUMNS], 0);
         bundle.each(&mut |kind, bytes| {
-            let end = given + bytes.len();
-            fits = fits && columns < parts.len() && end <= WIDEST;
-            if fits {
-                gathered[given..end].copy_from_slice(bytes);
-                parts[columns] = (kind, given, end);
-                (columns, given) = (columns + 1, end);
+            if let Some(next) = given.get_mut(columns) {
+                *next = Given::new(kind, bytes);
             }
+            columns += 1;
         });
-        let parts = &mut parts[..columns];
-        parts.sort_unstable();
-        let mut row = Row { kinds: [0; 16], columns, bytes: [0; WIDEST], length: 0 };
-        for (column, (kind, start, end)) in parts.iter().enumerate() {
-            let next = row.length + (end - start);
-            row.kinds[column] = *kind;
-            row.bytes[row.length..next].copy_from_slice(&gathered[*start..*end]);
+        let given = given.get_mut(..columns)?;
+        given.sort_unstable_by_key(|component| component.kind);
+        let (kinds, sizes) = ([0; COLUMNS], [0; COLUMNS]);
+        let mut row = Row { kinds, sizes, columns, bytes: [0; WIDEST], length: 0 };
+        for (column, component) in given.iter().enumerate() {
+            row.kinds[column] = component.kind;
+            row.sizes[column] = component.size;
+            let next = row.length + component.bytes().len();
+            row.bytes[row.length..next].copy_from_slice(component.bytes());
             row.length = next;
         }
-        fits.then_some(row)
+        Some(row)
     }
 
     fn kinds(&self) -> &[u32] {
         &self.kinds[..self.columns]
+    }
+
+    fn sizes(&self) -> &[u32] {
+        &self.sizes[..self.columns]
     }
 
     fn bytes(&self) -> &[u8] {
@@ -53,7 +80,8 @@ impl Row {
 
 impl VerdictStore {
     /// Makes an entity of a tuple of components, in the archetype that has these
-    /// types; [`BadPlace`](Refusal::BadPlace) where none has.
+    /// types; [`BadPlace`](Refusal::BadPlace) where none has. A type of another size
+    /// than its column's is refused with [`BadLength`](Refusal::BadLength).
     ///
     /// ```
     /// # use verdict_store::doc::*;
@@ -67,7 +95,7 @@ impl VerdictStore {
     /// ```
     pub fn spawn(&mut self, components: impl Bundle) -> Result<Entity, Refusal> {
         let row = Row::of(&components).ok_or(Refusal::BadPlace)?;
-        let archetype = self.archetype_of_types(row.kinds()).ok_or(Refusal::BadPlace)?;
+        let archetype = self.archetype_for(&row)?;
         self.spawn_bytes(archetype, row.bytes())
     }
 
@@ -84,8 +112,18 @@ impl VerdictStore {
     /// ```
     pub fn spawn_at(&mut self, entity: Entity, components: impl Bundle) -> Result<(), Refusal> {
         let row = Row::of(&components).ok_or(Refusal::BadPlace)?;
-        let archetype = self.archetype_of_types(row.kinds()).ok_or(Refusal::BadPlace)?;
+        let archetype = self.archetype_for(&row)?;
         self.spawn_at_bytes(entity, archetype, row.bytes())
+    }
+
+    /// The archetype that has a row's types. Each component has to be of its own
+    /// column's size: the library, which is lent the row as one run, sees their sum alone.
+    fn archetype_for(&self, row: &Row) -> Result<u32, Refusal> {
+        match self.archetype_and_sizes(row.kinds()) {
+            Some((_, sizes)) if sizes != row.sizes() => Err(Refusal::BadLength),
+            Some((archetype, _)) => Ok(archetype),
+            None => Err(Refusal::BadPlace),
+        }
     }
 
     /// The archetype of a tuple of components, if it is declared.

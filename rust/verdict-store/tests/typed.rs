@@ -1,7 +1,9 @@
-//! The calls with values: a type of another size takes nothing, and refusals come in
-//! document 01's order.
+//! The calls with values: a type of another size takes nothing and spoils nothing, and
+//! refusals come in document 01's order.
 
-use verdict_store::{component, Declaration, Place, Refusal, VerdictStore};
+use verdict_store::{
+    component, Bundle, Column, Component, Declaration, Entity, Place, Refusal, VerdictStore,
+};
 
 #[derive(Clone, Copy, Debug, PartialEq)]
 struct Pair(u16);
@@ -10,6 +12,11 @@ component!(Pair(u16), 3);
 #[derive(Clone, Copy, Debug, PartialEq)]
 struct Four(u32);
 component!(Four(u32), 5);
+
+/// The number of `Pair` with the size of `Four`.
+#[derive(Clone, Copy, Debug, PartialEq)]
+struct LongPair(u32);
+component!(LongPair(u32), 3);
 
 /// The number of `Four` with the size of `Pair`.
 #[derive(Clone, Copy, Debug, PartialEq)]
@@ -82,4 +89,49 @@ fn a_refused_removal_gives_its_own_refusal_and_takes_nothing() {
     assert_eq!(store.remove::<Four>(full[0]), Err(Refusal::NoSuchEntity));
     assert_eq!(store.remove::<Four>(e), Ok(Four(9)));
     assert_eq!(store.read::<Pair>(e), Ok(Pair(7)));
+}
+
+#[test]
+fn each_component_of_a_tuple_has_its_columns_size() {
+    let mut store = store();
+    let e = Entity::new(1, 4).unwrap();
+    // The two sizes changed places: their sum is that of the row.
+    let wrong = (LongPair(0x0403_0201), ShortFour(0x0605));
+    assert_eq!(store.spawn(wrong), Err(Refusal::BadLength));
+    assert_eq!(store.spawn_at(e, wrong), Err(Refusal::BadLength));
+    assert!(store.is_empty());
+    // Before 3 and 8.
+    store.reserve_entity().unwrap();
+    store.hold(1, 3).unwrap();
+    assert_eq!(store.spawn(wrong), Err(Refusal::BadLength));
+    assert_eq!(store.spawn_at(e, (LongPair(1),)), Err(Refusal::BadLength));
+}
+
+/// A bundle that is no tuple: as many components of a type as told, each of the same bytes.
+struct Repeated(u32, Vec<u8>, usize);
+
+impl Bundle for Repeated {
+    fn each(&self, take: &mut dyn FnMut(u32, &[u8])) {
+        (0..self.2).for_each(|_| take(self.0, &self.1));
+    }
+    fn columns() -> Vec<Column> {
+        vec![Pair::column()]
+    }
+}
+
+#[test]
+fn a_bundle_of_any_size_is_refused_as_a_tuple_is() {
+    let mut store = store();
+    let pair = |bytes: usize, count: usize| Repeated(Pair::TYPE, vec![7; bytes], count);
+    for bytes in [0, 1, 3, 64, 65, 1024, 1025] {
+        assert_eq!(store.spawn(pair(bytes, 1)), Err(Refusal::BadLength), "{bytes}");
+    }
+    for count in [2, 16, 17, 600] {
+        assert_eq!(store.spawn(pair(2, count)), Err(Refusal::BadPlace), "{count}");
+    }
+    assert_eq!(store.spawn(pair(1025, 600)), Err(Refusal::BadPlace));
+    let e = store.spawn(pair(2, 1)).unwrap();
+    assert_eq!(store.read::<Pair>(e), Ok(Pair(0x0707)));
+    store.reserve_entity().unwrap();
+    assert_eq!(store.spawn(pair(1025, 1)), Err(Refusal::BadLength));
 }
