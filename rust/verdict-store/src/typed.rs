@@ -6,6 +6,9 @@ use crate::{Bundle, Component, Entity, Refusal, VerdictStore, COLUMNS, SIZE};
 /// The widest row: sixteen columns of 64 bytes.
 const WIDEST: usize = COLUMNS * SIZE as usize;
 
+/// An archetype that no store declares.
+const NO_ARCHETYPE: u32 = u32::MAX;
+
 /// A component of a tuple: its size as given, and its bytes as far as a column can hold them.
 #[derive(Clone, Copy)]
 struct Given {
@@ -42,8 +45,9 @@ struct Row {
 }
 
 impl Row {
-    /// The row of a tuple; none where it has more components than an archetype can have.
-    fn of(bundle: &impl Bundle) -> Option<Row> {
+    /// The row of a tuple; of more components than an archetype can have, it keeps no more
+    /// than their count.
+    fn of(bundle: &impl Bundle) -> Row {
         let (mut given, mut columns) = ([Given::NOTHING; COLUMNS], 0);
         bundle.each(&mut |kind, bytes| {
             if let Some(next) = given.get_mut(columns) {
@@ -51,7 +55,7 @@ impl Row {
             }
             columns += 1;
         });
-        let given = given.get_mut(..columns)?;
+        let given = given.get_mut(..columns).unwrap_or(&mut []);
         given.sort_unstable_by_key(|component| component.kind);
         let (kinds, sizes) = ([0; COLUMNS], [0; COLUMNS]);
         let mut row = Row { kinds, sizes, columns, bytes: [0; WIDEST], length: 0 };
@@ -62,15 +66,12 @@ impl Row {
             row.bytes[row.length..next].copy_from_slice(component.bytes());
             row.length = next;
         }
-        Some(row)
+        row
     }
 
-    fn kinds(&self) -> &[u32] {
-        &self.kinds[..self.columns]
-    }
-
-    fn sizes(&self) -> &[u32] {
-        &self.sizes[..self.columns]
+    /// The types; none where there are more than an archetype can have.
+    fn kinds(&self) -> Option<&[u32]> {
+        self.kinds.get(..self.columns)
     }
 
     fn bytes(&self) -> &[u8] {
@@ -94,7 +95,7 @@ impl VerdictStore {
     /// # Ok::<(), Box<dyn std::error::Error>>(())
     /// ```
     pub fn spawn(&mut self, components: impl Bundle) -> Result<Entity, Refusal> {
-        let row = Row::of(&components).ok_or(Refusal::BadPlace)?;
+        let row = Row::of(&components);
         let archetype = self.archetype_for(&row)?;
         self.spawn_bytes(archetype, row.bytes())
     }
@@ -111,18 +112,20 @@ impl VerdictStore {
     /// # Ok::<(), Box<dyn std::error::Error>>(())
     /// ```
     pub fn spawn_at(&mut self, entity: Entity, components: impl Bundle) -> Result<(), Refusal> {
-        let row = Row::of(&components).ok_or(Refusal::BadPlace)?;
+        let row = Row::of(&components);
         let archetype = self.archetype_for(&row)?;
         self.spawn_at_bytes(entity, archetype, row.bytes())
     }
 
     /// The archetype that has a row's types. Each component has to be of its own
     /// column's size: the library, which is lent the row as one run, sees their sum alone.
+    /// Where none has the types it is one that is not declared, which the library refuses
+    /// when its turn comes.
     fn archetype_for(&self, row: &Row) -> Result<u32, Refusal> {
-        match self.archetype_and_sizes(row.kinds()) {
-            Some((_, sizes)) if sizes != row.sizes() => Err(Refusal::BadLength),
+        match row.kinds().and_then(|kinds| self.archetype_and_sizes(kinds)) {
+            Some((_, sizes)) if *sizes != row.sizes[..sizes.len()] => Err(Refusal::BadLength),
             Some((archetype, _)) => Ok(archetype),
-            None => Err(Refusal::BadPlace),
+            None => Ok(NO_ARCHETYPE),
         }
     }
 

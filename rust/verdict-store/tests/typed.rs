@@ -107,6 +107,23 @@ fn each_component_of_a_tuple_has_its_columns_size() {
     assert_eq!(store.spawn_at(e, (LongPair(1),)), Err(Refusal::BadLength));
 }
 
+#[test]
+fn a_tuple_that_no_archetype_has_is_refused_in_its_turn() {
+    let mut store = store();
+    let e = Entity::new(1, 4).unwrap();
+    store.hold(1, 3).unwrap();
+    assert_eq!(store.spawn((Four(1),)), Err(Refusal::BadPlace));
+    assert_eq!(store.spawn_at(e, (Pair(1), Pair(1))), Err(Refusal::BadPlace));
+    // No size is tested where no archetype has the types.
+    assert_eq!(store.spawn((ShortFour(1),)), Err(Refusal::BadPlace));
+    assert_eq!(store.spawn_at(e, (Stranger(1), LongPair(1))), Err(Refusal::BadPlace));
+    store.reserve_entity().unwrap();
+    assert_eq!(store.spawn((Four(1),)), Err(Refusal::NotFlushed));
+    assert_eq!(store.spawn((Pair(1), Pair(1))), Err(Refusal::NotFlushed));
+    assert_eq!(store.spawn_at(e, (Four(1),)), Err(Refusal::NotFlushed));
+    assert_eq!(store.spawn_at(e, (Stranger(1), LongPair(1))), Err(Refusal::NotFlushed));
+}
+
 /// A bundle that is no tuple: as many components of a type as told, each of the same bytes.
 struct Repeated(u32, Vec<u8>, usize);
 
@@ -134,4 +151,5 @@ fn a_bundle_of_any_size_is_refused_as_a_tuple_is() {
     assert_eq!(store.read::<Pair>(e), Ok(Pair(0x0707)));
     store.reserve_entity().unwrap();
     assert_eq!(store.spawn(pair(1025, 1)), Err(Refusal::BadLength));
+    assert_eq!(store.spawn(pair(1025, 17)), Err(Refusal::NotFlushed));
 }
