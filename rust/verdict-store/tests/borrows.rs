@@ -122,6 +122,25 @@ fn two_columns_at_once() {
     assert_eq!(store.borrow(archetype, Mark::TYPE).unwrap().values::<Pair>().count(), 0);
 }
 
+/// As wide as `Pair`, and another type.
+#[derive(Clone, Copy, Debug, PartialEq)]
+struct Other(u16);
+
+component!(Other(u16), 4);
+
+#[test]
+fn a_column_has_no_values_of_another_type() {
+    let mut store = store();
+    store.spawn((Pair(7),)).unwrap();
+    let column = store.borrow(1, Pair::TYPE).unwrap();
+    assert_eq!(column.values::<Other>().count(), 0);
+    assert_eq!(column.values::<Pair>().collect::<Vec<_>>(), [Pair(7)]);
+    drop(column);
+    let column = store.borrow_mut(1, Pair::TYPE).unwrap();
+    assert_eq!(column.values::<Other>().count(), 0);
+    assert_eq!(column.values::<Pair>().collect::<Vec<_>>(), [Pair(7)]);
+}
+
 #[test]
 fn bundles_in_any_order() {
     let mut store = store();
