@@ -293,7 +293,8 @@ uint32_t verdict_ids_freelist(
     const uint32_t *indices, size_t indices_count, const uint32_t *pending, size_t pending_count,
     uint64_t *handles, size_t handles_count, uint64_t out[4]);
 
-/* The head becomes 0; the tables stay as they are. Refusals: 12, 13, 1. */
+/* The head becomes 0; the tables stay as they are. Handles are then given out from 0v1 on
+   again: one from before may name a new entity. Refusals: 12, 13, 1. */
 uint32_t verdict_ids_clear(
     uint64_t head[4], const uint32_t *generations, size_t generations_count,
     const uint32_t *archetypes, size_t archetypes_count,
@@ -601,7 +602,8 @@ uint32_t verdict_store_flush(
     uint32_t *counts, size_t counts_count, const uint8_t *bytes, size_t bytes_count,
     const uint64_t *words, size_t words_count);
 
-/* The head and all row counts become 0: no entity is left. Nothing else changes. Refusals:
+/* The head and all row counts become 0: no entity is left. Nothing else changes. Handles
+   are then given out from 0v1 on again: one from before may name a new entity. Refusals:
    12, 13, 1, 8. */
 uint32_t verdict_store_clear(
     uint64_t head[4], const uint32_t *rows, size_t rows_count,

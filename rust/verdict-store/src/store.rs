@@ -154,7 +154,7 @@ impl VerdictStore {
     }
 
     /// Ends all entities, and all reservations. Handles are then given out from
-    /// 0v1 on again.
+    /// 0v1 on again, so that a handle from before may name a new entity.
     pub fn clear(&mut self) -> Result<(), Refusal> {
         lent!(self, verdict_store_clear)
     }

@@ -153,3 +153,30 @@ fn a_bundle_of_any_size_is_refused_as_a_tuple_is() {
     assert_eq!(store.spawn(pair(1025, 1)), Err(Refusal::BadLength));
     assert_eq!(store.spawn(pair(1025, 17)), Err(Refusal::NotFlushed));
 }
+
+/// The three ways in which a number comes to a generation that it had.
+#[test]
+fn an_old_handle_may_name_a_new_entity() {
+    let mut store = store();
+    let old = store.spawn((Pair(1),)).unwrap();
+    store.despawn(old).unwrap();
+    let next = store.spawn((Pair(2),)).unwrap();
+    assert_eq!((old.to_string(), next.to_string()), ("0v1".into(), "0v2".into()));
+    assert_eq!(store.read::<Pair>(old), Err(Refusal::NoSuchEntity));
+
+    store.clear().unwrap();
+    assert_eq!(store.read::<Pair>(old), Err(Refusal::NoSuchEntity));
+    assert_eq!(store.spawn((Pair(3),)), Ok(old));
+    assert_eq!(store.read::<Pair>(old), Ok(Pair(3)));
+
+    store.despawn(old).unwrap();
+    store.spawn_at(old, (Pair(4),)).unwrap();
+    assert_eq!(store.read::<Pair>(old), Ok(Pair(4)));
+
+    let last = Entity::new(0, u32::MAX).unwrap();
+    store.spawn_at(last, (Pair(5),)).unwrap();
+    assert_eq!(store.read::<Pair>(old), Err(Refusal::NoSuchEntity));
+    store.despawn(last).unwrap();
+    assert_eq!(store.spawn((Pair(6),)), Ok(old));
+    assert_eq!(store.read::<Pair>(old), Ok(Pair(6)));
+}
