@@ -180,3 +180,27 @@ fn an_old_handle_may_name_a_new_entity() {
     assert_eq!(store.spawn((Pair(6),)), Ok(old));
     assert_eq!(store.read::<Pair>(old), Ok(Pair(6)));
 }
+
+/// A type of 8 bytes more than 32 bits can count. No value of it is ever made.
+#[cfg(target_pointer_width = "64")]
+struct Huge;
+
+#[cfg(target_pointer_width = "64")]
+impl Component for Huge {
+    const TYPE: u32 = 6;
+    type Bytes = [u8; (1 << 32) + 8];
+    fn to_bytes(&self) -> Self::Bytes {
+        unreachable!()
+    }
+    fn from_bytes(_: Self::Bytes) -> Huge {
+        Huge
+    }
+}
+
+#[cfg(target_pointer_width = "64")]
+#[test]
+fn a_size_that_cannot_be_counted_is_told_as_the_largest() {
+    assert_eq!(Huge::column(), Column { kind: 6, size: u32::MAX });
+    let wrong = Declaration::new(1).of::<(Huge,)>(1).build().unwrap_err();
+    assert_eq!(wrong.to_string(), "type 6 in archetype 1 has 4294967295 bytes, above 64");
+}
