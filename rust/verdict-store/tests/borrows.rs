@@ -83,6 +83,28 @@ fn a_forgotten_guard_holds_its_column() {
 }
 
 #[test]
+fn a_forgotten_shared_guard_holds_its_column() {
+    let mut store = store();
+    let e = store.spawn((Pair(7),)).unwrap();
+    std::mem::forget(store.borrow(1, Pair::TYPE).unwrap());
+    std::mem::forget(store.borrow(1, Pair::TYPE).unwrap());
+    assert_eq!(store.read::<Pair>(e), Ok(Pair(7)));
+    assert_eq!(store.borrow(1, Pair::TYPE).unwrap().bytes(), [7, 0]);
+    assert_eq!(store.write(e, Pair(1)), Err(Refusal::WordHeld));
+    assert_eq!(store.borrow_mut(1, Pair::TYPE).err(), Some(Refusal::WordHeld));
+    assert_eq!(store.remove::<Pair>(e), Err(Refusal::WordHeld));
+    assert_eq!(store.spawn(()), Err(Refusal::WordHeld));
+    assert_eq!(store.flush(), Err(Refusal::WordHeld));
+    assert_eq!(store.clear(), Err(Refusal::WordHeld));
+    assert_eq!(store.release_mut(1, Pair::TYPE), Err(Refusal::WrongRelease));
+    store.release(1, Pair::TYPE).unwrap();
+    assert_eq!(store.despawn(e), Err(Refusal::WordHeld));
+    store.release(1, Pair::TYPE).unwrap();
+    assert_eq!(store.release(1, Pair::TYPE), Err(Refusal::NotHeld));
+    store.despawn(e).unwrap();
+}
+
+#[test]
 fn a_copy_is_borrowed_by_nobody() {
     let mut store = store();
     let e = store.spawn((Pair(7),)).unwrap();
