@@ -76,6 +76,28 @@ static void entities(void) {
     expect("a free number", out[0], 0);
 }
 
+/* A reserved entity has no component yet; what is said depends on its number. */
+static void reserved(void) {
+    uint64_t out[4], used, fresh;
+    const uint8_t value[] = {1};
+
+    expect("reserve", verdict_store_reserve_entity(VERDICT_STORE(&store), out), 0);
+    used = out[0];
+    expect("reserve", verdict_store_reserve_entity(VERDICT_STORE(&store), out), 0);
+    fresh = out[0];
+    show(used);
+    show(fresh);
+    expect("read, used before", verdict_store_read(VERDICT_STORE(&store), used, 5, out), 2);
+    expect("read, new", verdict_store_read(VERDICT_STORE(&store), fresh, 5, out), 15);
+    expect("write, used before",
+           verdict_store_write(VERDICT_STORE(&store), used, 5, value, 1), 2);
+    expect("write, new", verdict_store_write(VERDICT_STORE(&store), fresh, 5, value, 1), 15);
+    expect("flush", verdict_store_flush(VERDICT_STORE(&store)), 0);
+    expect("read, live", verdict_store_read(VERDICT_STORE(&store), used, 5, out), 15);
+    expect("despawn", verdict_store_despawn(VERDICT_STORE(&store), fresh), 0);
+    expect("despawn", verdict_store_despawn(VERDICT_STORE(&store), used), 0);
+}
+
 /* A borrowed column keeps rows where they are. */
 static void borrows(void) {
     uint64_t out[4];
@@ -189,6 +211,7 @@ static void nothing(void) {
 
 int main(void) {
     entities();
+    reserved();
     borrows();
     layers();
     nothing();

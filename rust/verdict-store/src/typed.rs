@@ -175,7 +175,9 @@ impl VerdictStore {
     }
 
     /// A component of an entity. A type of another size than the declared one is
-    /// refused with [`BadLength`](Refusal::BadLength).
+    /// refused with [`BadLength`](Refusal::BadLength). A reserved entity has none
+    /// yet: [`NoComponent`](Refusal::NoComponent) where its number is new,
+    /// [`NoSuchEntity`](Refusal::NoSuchEntity) where it was used before.
     pub fn read<T: Component>(&self, entity: Entity) -> Result<T, Refusal> {
         self.of_declared_size::<T>()?;
         let bytes = self.read_bytes(entity, T::TYPE)?;
