@@ -10,9 +10,11 @@
    told beside it; the rest of them are 0.
 
    What may be lent. Any tables, handles and buffers: the calls test what they are given, in the
-   order told beside each function, and the first test that fails gives the number. Two duties
+   order told beside each function, and the first test that fails gives the number. Four duties
    are left to the caller, which no call can test: a pointer with its count is an array of that
-   many elements (it may be null where the count is 0), and what a call writes to overlaps
+   many elements (it may be null where the count is 0); a pointer without one is valid and not
+   null (head, out and state with four elements; word, position and number with one); every
+   pointer that is not null is aligned for its type; and what a call writes to overlaps
    nothing else that is lent to it.
 
    Handles. A handle is 64 bits, the generation in the high half, the number in the low half.
@@ -293,7 +295,8 @@ uint32_t verdict_ids_freelist(
     const uint32_t *indices, size_t indices_count, const uint32_t *pending, size_t pending_count,
     uint64_t *handles, size_t handles_count, uint64_t out[4]);
 
-/* The head becomes 0; the tables stay as they are. Refusals: 12, 13, 1. */
+/* The head becomes 0; the tables stay as they are. Handles are then given out from 0v1 on
+   again: one from before may name a new entity. Refusals: 12, 13, 1. */
 uint32_t verdict_ids_clear(
     uint64_t head[4], const uint32_t *generations, size_t generations_count,
     const uint32_t *archetypes, size_t archetypes_count,
@@ -427,8 +430,9 @@ uint32_t verdict_store_remove(
     uint32_t *counts, size_t counts_count, uint8_t *bytes, size_t bytes_count,
     const uint64_t *words, size_t words_count, uint64_t bits, uint32_t kind);
 
-/* Where a component of an entity is. Out: where it starts in `bytes`, and its length.
-   Refusals: 12, 13, 1, 5, 2, 1, 15, 7 where its column is borrowed uniquely. */
+/* Where a component of an entity is. Out: where it starts in `bytes`, and its length. A
+   reserved handle has none yet: 15 where its number is new, 2 where it was used before, as
+   for get. Refusals: 12, 13, 1, 5, 2, 1, 15, 7 where its column is borrowed uniquely. */
 uint32_t verdict_store_read(
     const uint64_t head[4], const uint32_t *rows, size_t rows_count,
     const uint32_t *widths, size_t widths_count, const uint32_t *types, size_t types_count,
@@ -440,8 +444,9 @@ uint32_t verdict_store_read(
     const uint8_t *bytes, size_t bytes_count, const uint64_t *words, size_t words_count,
     uint64_t bits, uint32_t kind, uint64_t out[4]);
 
-/* Overwrites a component of an entity. Refusals: 12, 13 (also for `value`), 1, 5, 2, 1,
-   15, 8 where its column is borrowed. */
+/* Overwrites a component of an entity. A reserved handle has none yet: 15 where its number
+   is new, 2 where it was used before. Refusals: 12, 13 (also for `value`), 1, 5, 2, 1, 15,
+   8 where its column is borrowed. */
 uint32_t verdict_store_write(
     const uint64_t head[4], const uint32_t *rows, size_t rows_count,
     const uint32_t *widths, size_t widths_count, const uint32_t *types, size_t types_count,
@@ -601,7 +606,8 @@ uint32_t verdict_store_flush(
     uint32_t *counts, size_t counts_count, const uint8_t *bytes, size_t bytes_count,
     const uint64_t *words, size_t words_count);
 
-/* The head and all row counts become 0: no entity is left. Nothing else changes. Refusals:
+/* The head and all row counts become 0: no entity is left. Nothing else changes. Handles
+   are then given out from 0v1 on again: one from before may name a new entity. Refusals:
    12, 13, 1, 8. */
 uint32_t verdict_store_clear(
     uint64_t head[4], const uint32_t *rows, size_t rows_count,

@@ -4,8 +4,12 @@
 # The kit writes archives for x86-64 alone. Its clang, however, compiles for Arm
 # too. So rt is run on a copy of the kit, made of links, whose clang first does
 # what it is asked, and then compiles the same module once more for this machine.
-# target/staticlib/libNAME.a stays what the kit makes it.
+# target/staticlib/libNAME.a stays what the kit makes it. It ends with 127 where there is no rt.
 set -eu
+command -v rt >/dev/null || {
+    echo 'arm-archive.sh: there is no command rt on the PATH.' >&2
+    exit 127
+}
 mkdir -p "$1"
 out=$(cd "$1" && pwd)
 shift

@@ -13,6 +13,11 @@ use std::path::{Path, PathBuf};
 use std::process::{exit, Command};
 use std::{env, fs};
 
+/// For where `rt` is missing.
+const ADVICE: &str = "\
+Put the Rattle kit's command `rt` on the PATH, or name a ready archive, or a folder of them, in
+VERDICT_STORE_ARCHIVE, and build again.";
+
 fn main() {
     println!("cargo::rerun-if-env-changed=VERDICT_STORE_ARCHIVE");
     println!("cargo::rerun-if-changed=build.rs");
@@ -88,22 +93,29 @@ fn made(here: &Path, root: &Path, out: &Path) -> Vec<PathBuf> {
 }
 
 fn run(command: &mut Command) {
-    match command.output() {
-        Ok(done) if done.status.success() => {}
-        Ok(done) => {
-            let said = String::from_utf8_lossy(&done.stdout).into_owned();
-            stop(&format!("{said}{}", String::from_utf8_lossy(&done.stderr)))
-        }
-        Err(error) => stop(&format!("{command:?} did not run: {error}")),
+    if let Some(why) = fault(command) {
+        stop(&why);
+    }
+}
+
+/// What went wrong with a command, in words. One that could not be started, which a shell
+/// tells by 127, may be missing; one that ran and failed has said why itself.
+pub fn fault(command: &mut Command) -> Option<String> {
+    let done = match command.output() {
+        Ok(done) => done,
+        Err(error) => return Some(format!("{command:?} could not be started: {error}\n{ADVICE}")),
+    };
+    let out = String::from_utf8_lossy(&done.stdout);
+    let said = format!("{out}{}", String::from_utf8_lossy(&done.stderr));
+    let said = said.trim_end();
+    match done.status.code() {
+        Some(0) => None,
+        Some(127) => Some(format!("{command:?} could not be started:\n{said}\n{ADVICE}")),
+        _ => Some(format!("{command:?} ran and failed, {}. It said:\n{said}", done.status)),
     }
 }
 
 fn stop(why: &str) -> ! {
-    eprintln!("verdict-store-sys: the proved static library is missing.");
-    eprintln!("{}", why.trim_end());
-    eprintln!(
-        "Put the Rattle kit's command `rt` on the PATH, or name a ready archive, or a folder of \
-         them, in VERDICT_STORE_ARCHIVE, and build again."
-    );
+    eprintln!("verdict-store-sys: {why}");
     exit(1)
 }

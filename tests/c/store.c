@@ -76,6 +76,28 @@ static void entities(void) {
     expect("a free number", out[0], 0);
 }
 
+/* A reserved entity has no component yet; what is said depends on its number. */
+static void reserved(void) {
+    uint64_t out[4], used, fresh;
+    const uint8_t value[] = {1};
+
+    expect("reserve", verdict_store_reserve_entity(VERDICT_STORE(&store), out), 0);
+    used = out[0];
+    expect("reserve", verdict_store_reserve_entity(VERDICT_STORE(&store), out), 0);
+    fresh = out[0];
+    show(used);
+    show(fresh);
+    expect("read, used before", verdict_store_read(VERDICT_STORE(&store), used, 5, out), 2);
+    expect("read, new", verdict_store_read(VERDICT_STORE(&store), fresh, 5, out), 15);
+    expect("write, used before",
+           verdict_store_write(VERDICT_STORE(&store), used, 5, value, 1), 2);
+    expect("write, new", verdict_store_write(VERDICT_STORE(&store), fresh, 5, value, 1), 15);
+    expect("flush", verdict_store_flush(VERDICT_STORE(&store)), 0);
+    expect("read, live", verdict_store_read(VERDICT_STORE(&store), used, 5, out), 15);
+    expect("despawn", verdict_store_despawn(VERDICT_STORE(&store), fresh), 0);
+    expect("despawn", verdict_store_despawn(VERDICT_STORE(&store), used), 0);
+}
+
 /* A borrowed column keeps rows where they are. */
 static void borrows(void) {
     uint64_t out[4];
@@ -150,10 +172,49 @@ static void layers(void) {
     expect("column", out[0], 1);
 }
 
+/* A store of capacity 0 without a row: every table that has no entry is a null pointer. */
+static void nothing(void) {
+    static const uint32_t no_rows[] = {0}, no_columns[] = {0};
+    static uint32_t no_count[1];
+    static verdict_tables none;
+    uint64_t out[4], handle = 0x100000000;
+    none.rows = no_rows;
+    none.widths = no_columns;
+    none.counts = no_count;
+    none.archetype_count = 1;
+
+    expect("len of nothing", verdict_store_len(VERDICT_STORE(&none), out), 0);
+    expect("live", out[0], 0);
+    expect("spawn", verdict_store_spawn(VERDICT_STORE(&none), 0, NULL, 0, out), 4);
+    expect("spawn at", verdict_store_spawn_at(VERDICT_STORE(&none), handle, 0, NULL, 0), 4);
+    expect("despawn", verdict_store_despawn(VERDICT_STORE(&none), handle), 2);
+    expect("insert", verdict_store_insert(VERDICT_STORE(&none), handle, 1, NULL, 0), 2);
+    expect("remove", verdict_store_remove(VERDICT_STORE(&none), handle, 1), 2);
+    expect("read", verdict_store_read(VERDICT_STORE(&none), handle, 1, out), 2);
+    expect("write", verdict_store_write(VERDICT_STORE(&none), handle, 1, NULL, 0), 2);
+    expect("get", verdict_store_get(VERDICT_STORE(&none), handle, out), 2);
+    expect("resolve", verdict_store_resolve_unknown_gen(VERDICT_STORE(&none), 0, out), 2);
+    expect("contains", verdict_store_contains(VERDICT_STORE(&none), handle, out), 0);
+    expect("not contained", out[0], 0);
+    expect("borrow", verdict_store_borrow(VERDICT_STORE(&none), 0, 1), 15);
+    expect("release", verdict_store_release_mut(VERDICT_STORE(&none), 0, 1), 15);
+    expect("reserve", verdict_store_reserve_entity(VERDICT_STORE(&none), out), 4);
+    expect("reserve 0", verdict_store_reserve_entities(VERDICT_STORE(&none), 0, NULL, 0), 0);
+    expect("reserve 1", verdict_store_reserve_entities(VERDICT_STORE(&none), 1, out, 4), 4);
+    expect("no room to answer",
+           verdict_store_reserve_entities(VERDICT_STORE(&none), 1, NULL, 0), 13);
+    expect("free list", verdict_store_freelist(VERDICT_STORE(&none), NULL, 0, out), 0);
+    expect("none free", out[0], 0);
+    expect("flush", verdict_store_flush(VERDICT_STORE(&none)), 0);
+    expect("clear", verdict_store_clear(VERDICT_STORE(&none)), 0);
+}
+
 int main(void) {
     entities();
+    reserved();
     borrows();
     layers();
+    nothing();
     printf("%d failures\n", failures);
     return failures != 0;
 }

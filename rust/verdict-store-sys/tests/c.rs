@@ -1,6 +1,7 @@
 //! The C program of tests/c, compiled with the header and linked with the archives
-//! that this crate links, prints what it is to print.
+//! that this crate links, prints what it is to print. A C++ compiler takes it too.
 
+use std::io::ErrorKind;
 use std::path::Path;
 use std::process::Command;
 
@@ -22,4 +23,25 @@ fn a_c_program_calls_the_store() {
     let ran = Command::new(&program).output().unwrap();
     assert_eq!(String::from_utf8_lossy(&ran.stdout), include_str!("../../../tests/c/store.out"));
     assert!(ran.status.success());
+}
+
+#[test]
+fn the_header_is_one_for_cpp_too() {
+    let root = Path::new(env!("CARGO_MANIFEST_DIR")).join("../..");
+    let cpp = std::env::var("CXX").unwrap_or_else(|_| "c++".to_string());
+    let checked = Command::new(&cpp)
+        .args(["-std=c++11", "-Wall", "-Wextra", "-Wpedantic", "-Werror", "-fsyntax-only", "-I"])
+        .arg(root.join("include"))
+        .args(["-x", "c++"])
+        .arg(root.join("tests/c/store.c"))
+        .output();
+    match checked {
+        Ok(done) => {
+            assert!(done.status.success(), "{}", String::from_utf8_lossy(&done.stderr));
+        }
+        Err(error) if error.kind() == ErrorKind::NotFound => {
+            println!("There is no {cpp} here: the header was not compiled as C++.");
+        }
+        Err(error) => panic!("{cpp} did not run: {error}"),
+    }
 }

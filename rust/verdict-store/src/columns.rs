@@ -26,9 +26,11 @@ impl Part {
         })
     }
 
-    /// The values of the column; none where the type has another size.
-    fn values<T: Component>(self, bytes: &[u8]) -> impl Iterator<Item = T> + '_ {
-        let rows = if self.size == T::Bytes::SIZE { self.rows } else { 0 };
+    /// The values of a column of this type number; none where the type has another
+    /// number or another size.
+    fn values<T: Component>(self, kind: u32, bytes: &[u8]) -> impl Iterator<Item = T> + '_ {
+        let fits = kind == T::TYPE && self.size == T::Bytes::SIZE;
+        let rows = if fits { self.rows } else { 0 };
         (0..rows).filter_map(move |row| {
             let start = self.start + row * self.size;
             T::Bytes::from_slice(&bytes[start..start + self.size]).map(T::from_bytes)
@@ -77,9 +79,10 @@ impl<'a> Borrowed<'a> {
         self.part.row(index).map(|range| &self.store.all_bytes()[range])
     }
 
-    /// The components as values; none where the type has another size.
+    /// The components as values; none where the column is of another type, or of
+    /// another size than the type's.
     pub fn values<T: Component>(&self) -> impl Iterator<Item = T> + '_ {
-        self.part.values(self.store.all_bytes())
+        self.part.values(self.kind, self.store.all_bytes())
     }
 }
 
@@ -142,9 +145,10 @@ impl<'a> BorrowedMut<'a> {
         self.part.row(index).map(|range| &mut self.store.all_bytes_mut()[range])
     }
 
-    /// The components as values; none where the type has another size.
+    /// The components as values; none where the column is of another type, or of
+    /// another size than the type's.
     pub fn values<T: Component>(&self) -> impl Iterator<Item = T> + '_ {
-        self.part.values(self.store.all_bytes())
+        self.part.values(self.kind, self.store.all_bytes())
     }
 
     /// This column to be written, and another of the archetype to be read. This

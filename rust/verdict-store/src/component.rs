@@ -70,7 +70,10 @@ pub trait Component: Sized + 'static {
 
     /// The type's column, for a [`Declaration`](crate::Declaration).
     fn column() -> Column {
-        Column { kind: Self::TYPE, size: Self::Bytes::SIZE as u32 }
+        // A size that 32 bits cannot count is told as the largest that they can: both are
+        // above the limit.
+        let size = u32::try_from(Self::Bytes::SIZE).unwrap_or(u32::MAX);
+        Column { kind: Self::TYPE, size }
     }
 }
 

@@ -154,9 +154,10 @@ impl Declaration {
     /// The store, empty.
     ///
     /// All tables are made here, once: no later call of the store asks for
-    /// memory, but for the lists of handles that [`reserve_entities`] and
-    /// [`freelist`] answer.
+    /// memory, but for [`archetype_of`], for the lists of handles that
+    /// [`reserve_entities`] and [`freelist`] answer, and for a copy of the store.
     ///
+    /// [`archetype_of`]: VerdictStore::archetype_of
     /// [`reserve_entities`]: VerdictStore::reserve_entities
     /// [`freelist`]: VerdictStore::freelist
     pub fn build(&self) -> Result<VerdictStore, BadDeclaration> {

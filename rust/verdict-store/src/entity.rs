@@ -7,7 +7,11 @@ use std::num::NonZeroU64;
 ///
 /// It shows as number v generation. A handle outlives its entity: once the
 /// entity is despawned the generation moves on, and the old handle is refused
-/// with [`NoSuchEntity`](crate::Refusal::NoSuchEntity) for good.
+/// with [`NoSuchEntity`](crate::Refusal::NoSuchEntity) until its number comes to
+/// that generation again. Then it names the entity that has the number now. That
+/// happens after [`clear`](crate::VerdictStore::clear), which begins at
+/// generation 1 again; by [`spawn_at`](crate::VerdictStore::spawn_at), which
+/// takes any generation; and after generation 4,294,967,295, which 1 follows.
 ///
 /// ```
 /// use verdict_store::Entity;

@@ -154,7 +154,7 @@ impl VerdictStore {
     }
 
     /// Ends all entities, and all reservations. Handles are then given out from
-    /// 0v1 on again.
+    /// 0v1 on again, so that a handle from before may name a new entity.
     pub fn clear(&mut self) -> Result<(), Refusal> {
         lent!(self, verdict_store_clear)
     }
@@ -270,15 +270,27 @@ impl VerdictStore {
 
     /// The archetype of these type numbers, given in ascending order.
     pub fn archetype_of_types(&self, kinds: &[u32]) -> Option<u32> {
+        self.archetype_and_sizes(kinds).map(|(archetype, _)| archetype)
+    }
+
+    /// The archetype of these type numbers, and the sizes of its columns.
+    pub(crate) fn archetype_and_sizes(&self, kinds: &[u32]) -> Option<(u32, &[u32])> {
         let mut first = 0;
         for (archetype, width) in self.widths.iter().enumerate() {
             let next = first + *width as usize;
             if self.types[first..next] == *kinds {
-                return Some(archetype as u32);
+                return Some((archetype as u32, &self.sizes[first..next]));
             }
             first = next;
         }
         None
+    }
+
+    /// The bytes of a component of this type, the same in all archetypes; none
+    /// where no archetype has the type.
+    pub(crate) fn size_of_type(&self, kind: u32) -> Option<u32> {
+        let column = self.types.iter().position(|declared| *declared == kind)?;
+        Some(self.sizes[column])
     }
 
     /// The entities of an archetype, in the order of their rows.

@@ -1,49 +1,77 @@
 //! The same calls with values in place of bytes.
 
 use crate::component::Bytes;
-use crate::{Bundle, Component, Entity, Refusal, VerdictStore};
+use crate::{Bundle, Component, Entity, Refusal, VerdictStore, COLUMNS, SIZE};
 
 /// The widest row: sixteen columns of 64 bytes.
-const WIDEST: usize = 16 * 64;
+const WIDEST: usize = COLUMNS * SIZE as usize;
 
-/// A row's bytes in ascending type number, and its types.
+/// An archetype that no store declares.
+const NO_ARCHETYPE: u32 = u32::MAX;
+
+/// A component of a tuple: its size as given, and its bytes as far as a column can hold them.
+#[derive(Clone, Copy)]
+struct Given {
+    kind: u32,
+    size: u32,
+    kept: [u8; SIZE as usize],
+}
+
+impl Given {
+    const NOTHING: Given = Given { kind: 0, size: 0, kept: [0; SIZE as usize] };
+
+    fn new(kind: u32, bytes: &[u8]) -> Given {
+        let mut given = Given { kind, ..Given::NOTHING };
+        given.size = u32::try_from(bytes.len()).unwrap_or(u32::MAX);
+        let kept = bytes.len().min(given.kept.len());
+        given.kept[..kept].copy_from_slice(&bytes[..kept]);
+        given
+    }
+
+    fn bytes(&self) -> &[u8] {
+        let size = self.size.min(SIZE) as usize;
+        &self.kept[..size]
+    }
+}
+
+/// The components of a tuple in ascending type number: their types, their sizes, and
+/// their bytes one after the other.
 struct Row {
-    kinds: [u32; 16],
+    kinds: [u32; COLUMNS],
+    sizes: [u32; COLUMNS],
     columns: usize,
     bytes: [u8; WIDEST],
     length: usize,
 }
 
 impl Row {
-    /// The row of a tuple: none where it is no row of any archetype, a type twice
-    /// or too many bytes.
-    fn of(bundle: &impl Bundle) -> Option<Row> {
-        let mut parts = [(0u32, 0usize, 0usize); 16];
-        let (mut columns, mut given, mut gathered) = (0, 0, [0; WIDEST]);
-        let mut fits = true;
+    /// The row of a tuple; of more components than an archetype can have, it keeps no more
+    /// than their count.
+    fn of(bundle: &impl Bundle) -> Row {
+        let (mut given, mut columns) = ([Given::NOTHING; COLUMNS], 0);
         bundle.each(&mut |kind, bytes| {
-            let end = given + bytes.len();
-            fits = fits && columns < parts.len() && end <= WIDEST;
-            if fits {
-                gathered[given..end].copy_from_slice(bytes);
-                parts[columns] = (kind, given, end);
-                (columns, given) = (columns + 1, end);
+            if let Some(next) = given.get_mut(columns) {
+                *next = Given::new(kind, bytes);
             }
+            columns += 1;
         });
-        let parts = &mut parts[..columns];
-        parts.sort_unstable();
-        let mut row = Row { kinds: [0; 16], columns, bytes: [0; WIDEST], length: 0 };
-        for (column, (kind, start, end)) in parts.iter().enumerate() {
-            let next = row.length + (end - start);
-            row.kinds[column] = *kind;
-            row.bytes[row.length..next].copy_from_slice(&gathered[*start..*end]);
+        let given = given.get_mut(..columns).unwrap_or(&mut []);
+        given.sort_unstable_by_key(|component| component.kind);
+        let (kinds, sizes) = ([0; COLUMNS], [0; COLUMNS]);
+        let mut row = Row { kinds, sizes, columns, bytes: [0; WIDEST], length: 0 };
+        for (column, component) in given.iter().enumerate() {
+            row.kinds[column] = component.kind;
+            row.sizes[column] = component.size;
+            let next = row.length + component.bytes().len();
+            row.bytes[row.length..next].copy_from_slice(component.bytes());
             row.length = next;
         }
-        fits.then_some(row)
+        row
     }
 
-    fn kinds(&self) -> &[u32] {
-        &self.kinds[..self.columns]
+    /// The types; none where there are more than an archetype can have.
+    fn kinds(&self) -> Option<&[u32]> {
+        self.kinds.get(..self.columns)
     }
 
     fn bytes(&self) -> &[u8] {
@@ -53,7 +81,8 @@ impl Row {
 
 impl VerdictStore {
     /// Makes an entity of a tuple of components, in the archetype that has these
-    /// types; [`BadPlace`](Refusal::BadPlace) where none has.
+    /// types; [`BadPlace`](Refusal::BadPlace) where none has. A type of another size
+    /// than its column's is refused with [`BadLength`](Refusal::BadLength).
     ///
     /// ```
     /// # use verdict_store::doc::*;
@@ -66,8 +95,8 @@ impl VerdictStore {
     /// # Ok::<(), Box<dyn std::error::Error>>(())
     /// ```
     pub fn spawn(&mut self, components: impl Bundle) -> Result<Entity, Refusal> {
-        let row = Row::of(&components).ok_or(Refusal::BadPlace)?;
-        let archetype = self.archetype_of_types(row.kinds()).ok_or(Refusal::BadPlace)?;
+        let row = Row::of(&components);
+        let archetype = self.archetype_for(&row)?;
         self.spawn_bytes(archetype, row.bytes())
     }
 
@@ -83,9 +112,21 @@ impl VerdictStore {
     /// # Ok::<(), Box<dyn std::error::Error>>(())
     /// ```
     pub fn spawn_at(&mut self, entity: Entity, components: impl Bundle) -> Result<(), Refusal> {
-        let row = Row::of(&components).ok_or(Refusal::BadPlace)?;
-        let archetype = self.archetype_of_types(row.kinds()).ok_or(Refusal::BadPlace)?;
+        let row = Row::of(&components);
+        let archetype = self.archetype_for(&row)?;
         self.spawn_at_bytes(entity, archetype, row.bytes())
+    }
+
+    /// The archetype that has a row's types. Each component has to be of its own
+    /// column's size: the library, which is lent the row as one run, sees their sum alone.
+    /// Where none has the types it is one that is not declared, which the library refuses
+    /// when its turn comes.
+    fn archetype_for(&self, row: &Row) -> Result<u32, Refusal> {
+        match row.kinds().and_then(|kinds| self.archetype_and_sizes(kinds)) {
+            Some((_, sizes)) if *sizes != row.sizes[..sizes.len()] => Err(Refusal::BadLength),
+            Some((archetype, _)) => Ok(archetype),
+            None => Ok(NO_ARCHETYPE),
+        }
     }
 
     /// The archetype of a tuple of components, if it is declared.
@@ -112,7 +153,8 @@ impl VerdictStore {
     }
 
     /// Takes a component from an entity and answers it. The entity goes to the
-    /// archetype without that type.
+    /// archetype without that type. A type of another size than the declared one
+    /// is refused with [`BadLength`](Refusal::BadLength), and nothing is taken.
     ///
     /// ```
     /// # use verdict_store::doc::*;
@@ -123,14 +165,21 @@ impl VerdictStore {
     /// # Ok::<(), Box<dyn std::error::Error>>(())
     /// ```
     pub fn remove<T: Component>(&mut self, entity: Entity) -> Result<T, Refusal> {
-        // What a granted removal took could be read before it.
+        self.of_declared_size::<T>()?;
+        // A removal is granted only where the entity has the component and no column is
+        // borrowed: what it takes could be read before it. Where it is refused, its own
+        // refusal is answered, not the read's.
         let component = self.read(entity);
         self.remove_type(entity, T::TYPE)?;
         component
     }
 
-    /// A component of an entity.
+    /// A component of an entity. A type of another size than the declared one is
+    /// refused with [`BadLength`](Refusal::BadLength). A reserved entity has none
+    /// yet: [`NoComponent`](Refusal::NoComponent) where its number is new,
+    /// [`NoSuchEntity`](Refusal::NoSuchEntity) where it was used before.
     pub fn read<T: Component>(&self, entity: Entity) -> Result<T, Refusal> {
+        self.of_declared_size::<T>()?;
         let bytes = self.read_bytes(entity, T::TYPE)?;
         T::Bytes::from_slice(bytes).map(T::from_bytes).ok_or(Refusal::BadLength)
     }
@@ -147,5 +196,15 @@ impl VerdictStore {
     /// ```
     pub fn write<T: Component>(&mut self, entity: Entity, component: T) -> Result<(), Refusal> {
         self.write_bytes(entity, T::TYPE, component.to_bytes().as_ref())
+    }
+
+    /// Refuses a type that is declared with another size. This stands before the
+    /// library's own tests: of these it would come after 12 alone, which a store that
+    /// was built never gives.
+    fn of_declared_size<T: Component>(&self) -> Result<(), Refusal> {
+        match self.size_of_type(T::TYPE) {
+            Some(size) if size as usize != T::Bytes::SIZE => Err(Refusal::BadLength),
+            _ => Ok(()),
+        }
     }
 }

@@ -83,6 +83,28 @@ fn a_forgotten_guard_holds_its_column() {
 }
 
 #[test]
+fn a_forgotten_shared_guard_holds_its_column() {
+    let mut store = store();
+    let e = store.spawn((Pair(7),)).unwrap();
+    std::mem::forget(store.borrow(1, Pair::TYPE).unwrap());
+    std::mem::forget(store.borrow(1, Pair::TYPE).unwrap());
+    assert_eq!(store.read::<Pair>(e), Ok(Pair(7)));
+    assert_eq!(store.borrow(1, Pair::TYPE).unwrap().bytes(), [7, 0]);
+    assert_eq!(store.write(e, Pair(1)), Err(Refusal::WordHeld));
+    assert_eq!(store.borrow_mut(1, Pair::TYPE).err(), Some(Refusal::WordHeld));
+    assert_eq!(store.remove::<Pair>(e), Err(Refusal::WordHeld));
+    assert_eq!(store.spawn(()), Err(Refusal::WordHeld));
+    assert_eq!(store.flush(), Err(Refusal::WordHeld));
+    assert_eq!(store.clear(), Err(Refusal::WordHeld));
+    assert_eq!(store.release_mut(1, Pair::TYPE), Err(Refusal::WrongRelease));
+    store.release(1, Pair::TYPE).unwrap();
+    assert_eq!(store.despawn(e), Err(Refusal::WordHeld));
+    store.release(1, Pair::TYPE).unwrap();
+    assert_eq!(store.release(1, Pair::TYPE), Err(Refusal::NotHeld));
+    store.despawn(e).unwrap();
+}
+
+#[test]
 fn a_copy_is_borrowed_by_nobody() {
     let mut store = store();
     let e = store.spawn((Pair(7),)).unwrap();
@@ -120,6 +142,25 @@ fn two_columns_at_once() {
     drop(column);
     assert_eq!(store.borrow(archetype, Mark::TYPE).unwrap().values::<Mark>().count(), 4);
     assert_eq!(store.borrow(archetype, Mark::TYPE).unwrap().values::<Pair>().count(), 0);
+}
+
+/// As wide as `Pair`, and another type.
+#[derive(Clone, Copy, Debug, PartialEq)]
+struct Other(u16);
+
+component!(Other(u16), 4);
+
+#[test]
+fn a_column_has_no_values_of_another_type() {
+    let mut store = store();
+    store.spawn((Pair(7),)).unwrap();
+    let column = store.borrow(1, Pair::TYPE).unwrap();
+    assert_eq!(column.values::<Other>().count(), 0);
+    assert_eq!(column.values::<Pair>().collect::<Vec<_>>(), [Pair(7)]);
+    drop(column);
+    let column = store.borrow_mut(1, Pair::TYPE).unwrap();
+    assert_eq!(column.values::<Other>().count(), 0);
+    assert_eq!(column.values::<Pair>().collect::<Vec<_>>(), [Pair(7)]);
 }
 
 #[test]
