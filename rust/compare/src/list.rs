@@ -10,8 +10,8 @@
 //! leaves of the tables, as far as they were lent, and of those words or bytes.
 
 use crate::ours::{Apart, Exchange, CALLS};
-use crate::tables::{above_limit, damage_within, sound_of};
-use crate::{columns, ids, store};
+use crate::tables::{above_limit, crowd, damage_within, sound_of};
+use crate::{columns, ids, moves, store};
 use oracle::calls::{compared, ColumnCall, IdCall, Original, Player, WordCall};
 use oracle::sequences::{column_call, column_tables, id_call, id_tables, some_word, Rng, WORDS};
 use oracle::{bits, place, ColumnTables, Columns, IdTables, Ids, Place, NOWHERE};
@@ -186,6 +186,9 @@ const DECLARED: [(u32, &[(u32, u32)]); 6] = [
     (2, &[(12, 0), (4_000_000_000, 9)]),
 ];
 
+/// How often a call must have done what [`moves::WANTED`] names.
+const TIMES: usize = 20;
+
 /// How many words or bytes a program has room for beside its tables.
 const ROOM: usize = 80;
 
@@ -201,6 +204,8 @@ struct List {
     now: BTreeMap<&'static str, Vec<u64>>,
     /// Each call and each number that it answered.
     seen: BTreeSet<(&'static str, u32)>,
+    /// How often each call did what [`moves::WANTED`] names.
+    done: BTreeMap<(&'static str, &'static str), usize>,
     calls: usize,
 }
 
@@ -223,6 +228,7 @@ impl List {
             told: String::new(),
             now,
             seen: BTreeSet::new(),
+            done: BTreeMap::new(),
             calls: 0,
         }
     }
@@ -295,7 +301,7 @@ impl List {
 
     fn call(&mut self, e: &Exchange) {
         let (mut numbers, parts) = e.taken_apart();
-        let name = CALLS[e.index() as usize];
+        let name = e.name();
         let position = self.program.calls.iter().position(|c| *c == name).expect("its call");
         self.tell(&parts);
         let lengths = self.lengths(&parts);
@@ -329,14 +335,24 @@ impl List {
         let answer: String = out.iter().map(|v| format!(" {v:x}")).collect();
         let _ = writeln!(self.told, "{:x}{answer} {left:x}", e.code());
         self.seen.insert((name, e.code() as u32));
+        moves::done(e)
+            .into_iter()
+            .for_each(|what| *self.done.entry((name, what)).or_default() += 1);
         self.calls += 1;
+    }
+
+    /// Whether the call did this too few times.
+    fn rare(&self, call: &str, what: &str) -> bool {
+        self.done.get(&(call, what)).copied().unwrap_or(0) < TIMES
     }
 
     /// The call, if the program plays it and has room for it, and the list is not long enough or lacks it.
     fn add(&mut self, e: &Exchange, enough: usize) -> bool {
-        let name = CALLS[e.index() as usize];
+        let name = e.name();
         let fits = |p: &Apart| self.table(p.name).is_some() || p.before.len() <= ROOM;
-        let wanted = self.calls < enough || !self.seen.contains(&(name, e.code() as u32));
+        let lacks = !self.seen.contains(&(name, e.code() as u32))
+            || moves::done(e).iter().any(|what| self.rare(name, what));
+        let wanted = self.calls < enough || lacks;
         let added =
             wanted && self.program.calls.contains(&name) && e.taken_apart().1.iter().all(fits);
         if added {
@@ -345,14 +361,19 @@ impl List {
         added
     }
 
-    /// What must be in the list and is not: each call with each number that it can give.
+    /// What must be in the list and is not: each call with each number that it can give, and often
+    /// enough with what [`moves::WANTED`] names.
     fn missing(&self) -> Vec<String> {
         let lacks = |call: &'static str| {
             let codes =
                 wanted(call).iter().filter(move |code| !self.seen.contains(&(call, **code)));
             codes.map(move |code| format!("{}: {call} with {code}", self.program.name))
         };
-        self.program.calls.iter().flat_map(|call| lacks(call)).collect()
+        let missing = self.program.calls.iter().flat_map(|call| lacks(call));
+        let played = moves::WANTED.iter().filter(|w| self.program.calls.contains(&w.1));
+        let rare = played.filter(|w| self.rare(w.1, w.2));
+        let times = |w: &(_, &str, &str)| format!("{}: {}: {}", self.program.name, w.1, w.2);
+        missing.chain(rare.map(times)).collect()
     }
 
     /// What the program reads.
@@ -507,7 +528,9 @@ impl List {
 /// and every call and every number that it can give has occurred.
 fn of_second(list: &mut List, rng: &mut Rng, enough: usize) {
     let played = |i: &usize| list.program.calls.contains(&store::WANTED[*i].1);
-    let kinds: Vec<usize> = store::exported().into_iter().filter(played).collect();
+    let mut kinds: Vec<usize> = store::exported().into_iter().filter(played).collect();
+    let moving: Vec<usize> =
+        kinds.iter().copied().filter(|i| moves::moves_rows(store::WANTED[*i].1)).collect();
     let ids = list.program.tables == IDS;
     if ids {
         let t = above_limit(rng);
@@ -516,6 +539,8 @@ fn of_second(list: &mut List, rng: &mut Rng, enough: usize) {
             list.add(&called, usize::MAX);
         }
     }
+    // the calls that move rows come twice as often as the others
+    kinds.extend(&moving);
     let d = oracle::Declaration::of(&DECLARED);
     for _ in 0..20_000 {
         if list.calls >= enough && list.missing().is_empty() {
@@ -529,9 +554,12 @@ fn of_second(list: &mut List, rng: &mut Rng, enough: usize) {
         };
         let capacity = if ids && rng.percent(10) { 1 } else { 16 };
         let mut t = sound_of(rng, d, capacity);
+        if !moving.is_empty() && rng.percent(75) {
+            crowd(rng, &mut t);
+        }
         damage_within(rng, &mut t);
         for _ in 0..15 {
-            let which = rng.pick(&kinds);
+            let which = store::next_call(rng, &kinds, &t);
             let (called, _, after) = store::made(rng, which, &t);
             if list.add(&called, enough) {
                 t = after;
@@ -595,6 +623,8 @@ pub struct Written {
     pub list: String,
     pub told: String,
     pub calls: usize,
+    /// A call, what it did, and how often.
+    pub done: Vec<(&'static str, &'static str, usize)>,
 }
 
 /// Each program's list. A list's calls depend on the seed and the program alone.
@@ -619,6 +649,7 @@ pub fn write(seed: u64) -> Vec<Written> {
         list: l.text(),
         told: l.told,
         calls: l.calls,
+        done: l.done.iter().map(|(call, times)| (call.0, call.1, *times)).collect(),
     });
     written.collect()
 }

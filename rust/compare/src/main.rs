@@ -16,6 +16,7 @@ mod columns;
 mod ids;
 mod list;
 mod make;
+mod moves;
 mod ours;
 mod store;
 mod tables;
@@ -60,7 +61,10 @@ fn run(ours: &mut Ours, name: &str, seed: u64, count: u64) -> Result<(), String>
         ));
     }
     tally.print(&format!("## {name}, seed {seed}"));
-    let missing = tally.missing(&wanted);
+    let mut missing = tally.missing(&wanted);
+    if name == "store" {
+        missing.extend(tally.rare(moves::WANTED));
+    }
     if !missing.is_empty() {
         return Err(format!("{name}: {}", missing.join("; ")));
     }
@@ -90,7 +94,7 @@ fn write_list(seed: u64) -> Result<(), String> {
     if let Some(missing) = oracle::MISSING {
         return Err(missing.to_string());
     }
-    for list::Written { name, list, told, calls } in list::write(seed) {
+    for list::Written { name, list, told, calls, done } in list::write(seed) {
         let folder = make::repository().join("crates").join(name);
         let put = |file: &str, text: &str| {
             std::fs::create_dir_all(&folder)
@@ -100,6 +104,9 @@ fn write_list(seed: u64) -> Result<(), String> {
         put("stdin", &list)?;
         put("stdout", &told)?;
         println!("{name}: {calls} calls in {} bytes", list.len());
+        for (call, what, times) in done {
+            println!("{name}: {call}: {what}: {times} times");
+        }
     }
     Ok(())
 }

@@ -207,14 +207,13 @@ impl Exchange {
         (numbers, parts)
     }
 
+    pub fn name(&self) -> &'static str {
+        self.call
+    }
+
     /// What the call must answer.
     pub fn code(&self) -> u64 {
         u64::from_le_bytes(self.expected[..8].try_into().unwrap())
-    }
-
-    /// The call's position among all.
-    pub fn index(&self) -> u64 {
-        u64::from_le_bytes(self.frame[..8].try_into().unwrap())
     }
 
     /// What differs, in words.

@@ -1,11 +1,13 @@
 //! The store, and the id and column calls on any tables, against the second program.
 
+use crate::moves;
 use crate::ours::{Difference, Exchange, Ours, CALLS};
 use crate::tables::{
-    above_limit, bytes, damage, row_width, size_of, some_handle, some_type, sound,
+    above_limit, bytes, crowded, damage, row_width, size_of, some_handle, some_type, sound,
 };
 use crate::tally::Tally;
 use oracle::sequences::Rng;
+use second::rules::flushed;
 use second::{columns, ids, store, Place, Tables, MAX};
 
 /// What each call can answer. A call that is not exported is left out.
@@ -137,6 +139,17 @@ fn arguments(rng: &mut Rng, t: &Tables) -> Arguments {
             next,
             new_end: next.saturating_sub(1) + rng.below(3) as u32,
         },
+    }
+}
+
+/// Other arguments for a call that moves rows: those of a row that is there, by which the call is
+/// granted where nothing else is in its way.
+fn aim(rng: &mut Rng, kind: &str, t: &Tables, x: &mut Arguments) {
+    if !["insert", "remove"].contains(&kind) {
+        x.bits = moves::row_step(rng, t).unwrap_or(x.bits);
+    } else if let Some((bits, ty)) = moves::component_step(rng, t, kind == "insert") {
+        let size = size_of(&t.declaration, ty).unwrap_or(0).min(70);
+        (x.bits, x.ty, x.value) = (bits, ty, bytes(rng, size));
     }
 }
 
@@ -337,7 +350,10 @@ fn tables(kind: &str) -> u64 {
 /// A random call of this kind: its exchange by the second program, the number, and what it left.
 pub fn made(rng: &mut Rng, which: usize, t: &Tables) -> (Exchange, u32, Tables) {
     let (kind, name, _) = WANTED[which];
-    let x = arguments(rng, t);
+    let mut x = arguments(rng, t);
+    if moves::moves_rows(name) && rng.percent(60) {
+        aim(rng, kind, t, &mut x);
+    }
     let s = answered(kind, t, &x);
     (exchange(kind, name, t, &x, &s), s.code, s.after)
 }
@@ -353,6 +369,7 @@ fn play(
     let kind = WANTED[which].0;
     let (exchange, code, after) = made(rng, which, t);
     tally.called(kind, code, tables(kind));
+    moves::done(&exchange).into_iter().for_each(|what| tally.done(kind, what));
     ours.compare(exchange)?;
     Ok(after)
 }
@@ -360,6 +377,23 @@ fn play(
 /// The positions in [`WANTED`] of what the library exports.
 pub fn exported() -> Vec<usize> {
     (0..WANTED.len()).filter(|i| CALLS.contains(&WANTED[*i].1)).collect()
+}
+
+/// The position of the next call. Where a flush is owed and would be granted, half of the time it is
+/// that, since the calls that move rows are refused until then; a clear, which leaves them no row,
+/// comes less often than the others.
+pub fn next_call(rng: &mut Rng, calls: &[usize], t: &Tables) -> usize {
+    let flush = calls.iter().copied().find(|i| WANTED[*i].0 == "flush");
+    if let (Some(flush), false) = (flush, flushed(t)) {
+        if rng.percent(50) && store::flush(&mut t.clone()).is_ok() {
+            return flush;
+        }
+    }
+    let which = rng.pick(calls);
+    if WANTED[which].0.ends_with("clear") && rng.percent(75) {
+        return rng.pick(calls);
+    }
+    which
 }
 
 /// Short sequences until there were `count` calls: of store calls, mostly on
@@ -380,17 +414,14 @@ pub fn run(ours: &mut Ours, tally: &mut Tally, seed: u64, count: u64) -> Result<
                 play(ours, tally, &mut rng, *which, &t)?;
             }
         }
-        let mut t = sound(&mut rng);
+        let mut t = if rng.percent(50) { crowded(&mut rng) } else { sound(&mut rng) };
         let mixed = rng.percent(50);
         if mixed || rng.percent(30) {
             damage(&mut rng, &mut t);
         }
         let calls = if mixed { &exported } else { &store };
         for _ in 0..20 {
-            let which = rng.pick(calls);
-            if WANTED[which].0.ends_with("clear") && rng.percent(50) {
-                continue;
-            }
+            let which = next_call(&mut rng, calls, &t);
             t = play(ours, tally, &mut rng, which, &t)?;
         }
     }
