@@ -157,16 +157,24 @@ const LEFT_OUT: &[&str] = &[
     "verdict_ids_alloc_many_len",
 ];
 
+/// The calls on a word: on it alone, and at a position of a table.
+const WORD_CALLS: [(&str, &str); 4] = [
+    ("verdict_word_shared", "verdict_word_shared_at"),
+    ("verdict_word_unique", "verdict_word_unique_at"),
+    ("verdict_word_release", "verdict_word_release_at"),
+    ("verdict_word_unique_release", "verdict_word_unique_release_at"),
+];
+
 /// What the calls on words and handles can answer; of the others, [`store::WANTED`] says it.
 const WANTED: &[(&str, &[u32])] = &[
     ("verdict_word_shared", &[0, 7, 9]),
     ("verdict_word_unique", &[0, 8]),
     ("verdict_word_release", &[0, 10, 11]),
     ("verdict_word_unique_release", &[0, 11]),
-    ("verdict_word_shared_at", &[0, 7, 9]),
-    ("verdict_word_unique_at", &[0, 8]),
-    ("verdict_word_release_at", &[0, 10, 11]),
-    ("verdict_word_unique_release_at", &[0, 11]),
+    ("verdict_word_shared_at", &[0, 7, 9, 13]),
+    ("verdict_word_unique_at", &[0, 8, 13]),
+    ("verdict_word_release_at", &[0, 10, 11, 13]),
+    ("verdict_word_unique_release_at", &[0, 11, 13]),
     ("verdict_handle_from_bits", &[0, 5]),
     ("verdict_handle_new", &[0, 5]),
 ];
@@ -403,13 +411,7 @@ impl List {
 
     /// A word alone, and at position 3 of nine.
     fn word(&mut self, which: usize, word: u64) {
-        const NAMES: [(&str, &str); 4] = [
-            ("verdict_word_shared", "verdict_word_shared_at"),
-            ("verdict_word_unique", "verdict_word_unique_at"),
-            ("verdict_word_release", "verdict_word_release_at"),
-            ("verdict_word_unique_release", "verdict_word_unique_release_at"),
-        ];
-        let (alone, at) = NAMES[which];
+        let (alone, at) = WORD_CALLS[which];
         let mut after = word;
         let (code, _) = Original.word(&mut after, WordCall::ALL[which]);
         self.call(&Exchange::new(alone, code).array("word", &[word], &[after]));
@@ -417,6 +419,14 @@ impl List {
         (table[3], left[3]) = (word, after);
         let out = if code == 0 { vec![after] } else { Vec::new() };
         self.call(&Exchange::new(at, code).slice("words", &table, &left).numbers(&[3]).out(&out));
+    }
+
+    /// A position that a table of nine does not have: 13, as include/verdict_store.h says. Each word
+    /// is one on which the call is granted.
+    fn past(&mut self, which: usize, position: u64) {
+        let word = [0u64, 0, 1, 1 << 63][which];
+        let e = Exchange::new(WORD_CALLS[which].1, 13).lent("words", &[word; 9]);
+        self.call(&e.numbers(&[position]).out(&[]));
     }
 
     fn unpack(&mut self, bits: u64) {
@@ -575,6 +585,9 @@ fn of_ids(rng: &mut Rng) -> List {
     list.examples();
     for w in WORDS {
         (0..4).for_each(|which| list.word(which, w));
+    }
+    for position in [9, u64::MAX] {
+        (0..4).for_each(|which| list.past(which, position));
     }
     for _ in 0..40 {
         let w = some_word(rng);
