@@ -1,6 +1,6 @@
 //! Compares the proved library with the original and with the second program.
 //!
-//!     compare                         all runs, two million calls
+//!     compare                         all runs, two million calls, and the fixed lists
 //!     compare short                   the same with fewer calls
 //!     compare words|ids|columns|store|walks [SEED [COUNT]]
 //!     compare replay FILE             a call that was answered otherwise, once more
@@ -111,6 +111,22 @@ fn write_list(seed: u64) -> Result<(), String> {
     Ok(())
 }
 
+/// Whether the repository holds the lists that `list` writes, and the outputs.
+fn same_lists() -> Result<(), String> {
+    for list::Written { name, list, told, .. } in list::write(SEED) {
+        for (file, text) in [("stdin", list), ("stdout", told)] {
+            let file = format!("crates/{name}/{file}");
+            let held = std::fs::read_to_string(make::repository().join(&file))
+                .map_err(|why| format!("{file}: {why}"))?;
+            if held != text {
+                return Err(format!("{file} is not what `compare list` writes"));
+            }
+        }
+    }
+    println!("The fixed lists of the programs are those that `compare list` writes.");
+    Ok(())
+}
+
 fn start() -> Result<Ours, String> {
     Ours::start(&make::server()?).map_err(|why| why.to_string())
 }
@@ -125,10 +141,11 @@ fn all(short: bool) -> Result<(), String> {
         }
         run(&mut ours, name, SEED, if short { few } else { long })?;
     }
-    if let (Some(missing), false) = (oracle::MISSING, left_out.is_empty()) {
-        println!("{} were not compared: {missing}", left_out.join(", "));
+    if let Some(missing) = oracle::MISSING {
+        println!("{} and the fixed lists were not compared: {missing}", left_out.join(", "));
+        return Ok(());
     }
-    Ok(())
+    same_lists()
 }
 
 fn main() {
