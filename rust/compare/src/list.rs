@@ -538,7 +538,7 @@ impl List {
 /// and every call and every number that it can give has occurred.
 fn of_second(list: &mut List, rng: &mut Rng, enough: usize) {
     let played = |i: &usize| list.program.calls.contains(&store::WANTED[*i].1);
-    let mut kinds: Vec<usize> = store::exported().into_iter().filter(played).collect();
+    let mut kinds: Vec<usize> = (0..store::WANTED.len()).filter(played).collect();
     let moving: Vec<usize> =
         kinds.iter().copied().filter(|i| moves::moves_rows(store::WANTED[*i].1)).collect();
     let ids = list.program.tables == IDS;

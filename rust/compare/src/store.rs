@@ -1,7 +1,7 @@
 //! The store, and the id and column calls on any tables, against the second program.
 
 use crate::moves;
-use crate::ours::{Difference, Exchange, Ours, CALLS};
+use crate::ours::{Difference, Exchange, Ours};
 use crate::tables::{
     above_limit, bytes, crowded, damage, row_width, size_of, some_handle, some_type, sound,
 };
@@ -10,7 +10,7 @@ use oracle::sequences::Rng;
 use second::rules::flushed;
 use second::{columns, ids, store, Place, Tables, MAX};
 
-/// What each call can answer. A call that is not exported is left out.
+/// What each call can answer.
 pub const WANTED: &[(&str, &str, &[u32])] = &[
     ("ids reserve entity", "verdict_ids_reserve_entity", &[0, 12, 13, 1, 4]),
     ("ids reserve entities", "verdict_ids_reserve_entities", &[0, 12, 13, 1, 4]),
@@ -56,9 +56,9 @@ pub const WANTED: &[(&str, &str, &[u32])] = &[
     ("len", "verdict_store_len", &[0, 12, 13, 1]),
 ];
 
-/// Those that the library exports.
+/// The same by kind alone.
 pub fn wanted() -> Vec<(&'static str, &'static [u32])> {
-    WANTED.iter().filter(|w| CALLS.contains(&w.1)).map(|w| (w.0, w.2)).collect()
+    WANTED.iter().map(|w| (w.0, w.2)).collect()
 }
 
 /// A call's arguments. Each kind of call uses some of them.
@@ -374,11 +374,6 @@ fn play(
     Ok(after)
 }
 
-/// The positions in [`WANTED`] of what the library exports.
-pub fn exported() -> Vec<usize> {
-    (0..WANTED.len()).filter(|i| CALLS.contains(&WANTED[*i].1)).collect()
-}
-
 /// The position of the next call. Where a flush is owed and would be granted, half of the time it is
 /// that, since the calls that move rows are refused until then; a clear, which leaves them no row,
 /// comes less often than the others.
@@ -400,9 +395,9 @@ pub fn next_call(rng: &mut Rng, calls: &[usize], t: &Tables) -> usize {
 /// sound tables, and of all calls on tables of every kind; now and then every
 /// call at a capacity above the limit.
 pub fn run(ours: &mut Ours, tally: &mut Tally, seed: u64, count: u64) -> Result<(), Difference> {
-    let exported = exported();
+    let every: Vec<usize> = (0..WANTED.len()).collect();
     let of_store = |i: &usize| WANTED[*i].1.starts_with("verdict_store");
-    let store: Vec<usize> = exported.iter().copied().filter(of_store).collect();
+    let store: Vec<usize> = every.iter().copied().filter(of_store).collect();
     let mut rng = Rng(seed);
     for s in 0.. {
         if tally.calls() >= count {
@@ -410,7 +405,7 @@ pub fn run(ours: &mut Ours, tally: &mut Tally, seed: u64, count: u64) -> Result<
         }
         if s % 1000 == 0 {
             let t = above_limit(&mut rng);
-            for which in &exported {
+            for which in &every {
                 play(ours, tally, &mut rng, *which, &t)?;
             }
         }
@@ -419,7 +414,7 @@ pub fn run(ours: &mut Ours, tally: &mut Tally, seed: u64, count: u64) -> Result<
         if mixed || rng.percent(30) {
             damage(&mut rng, &mut t);
         }
-        let calls = if mixed { &exported } else { &store };
+        let calls = if mixed { &every } else { &store };
         for _ in 0..20 {
             let which = next_call(&mut rng, calls, &t);
             t = play(ours, tally, &mut rng, which, &t)?;
