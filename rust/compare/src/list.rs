@@ -392,21 +392,34 @@ impl List {
         text
     }
 
-    fn id(&mut self, ids: &mut Ids, call: IdCall) {
+    /// The number with which document 01 refuses the call, where it lies outside what is compared.
+    fn id(&mut self, ids: &mut Ids, call: IdCall) -> Result<(), u32> {
         let before = ids.tables();
-        let Ok((code, values)) = compared(ids.call(&call), &call) else { return };
+        let (code, values) = compared(ids.call(&call), &call)?;
         let after = ids.tables();
         self.call(&ids::exchange(&call, &before, &after, code, &values));
         if let (IdCall::AllocMany(..), 0) = (call, code) {
             ids::walk(&after.pending, &values).iter().for_each(|e| self.call(e));
         }
+        Ok(())
     }
 
-    fn column(&mut self, columns: &mut Columns, call: ColumnCall) {
+    fn column(&mut self, columns: &mut Columns, call: ColumnCall) -> Result<(), u32> {
         let before = columns.tables();
-        let Ok((code, values)) = compared(columns.call(&call), &call) else { return };
+        let (code, values) = compared(columns.call(&call), &call)?;
         let d = columns.declaration().clone();
         self.call(&columns::exchange(&call, &d, &before, &columns.tables(), code, &values));
+        Ok(())
+    }
+
+    /// A call of document 01's examples: none of them may be lost.
+    fn id_example(&mut self, ids: &mut Ids, call: IdCall) {
+        self.id(ids, call).unwrap_or_else(|number| panic!("{call:?} lies outside: {number}"));
+    }
+
+    fn column_example(&mut self, columns: &mut Columns, call: ColumnCall) {
+        let said = self.column(columns, call.clone());
+        said.unwrap_or_else(|number| panic!("{call:?} lies outside: {number}"));
     }
 
     /// A word alone, and at position 3 of nine.
@@ -464,60 +477,75 @@ impl List {
 
     /// Document 01's examples K1 to K13, but for K10.
     fn examples(&mut self) {
+        self.examples_to_4();
+        self.examples_5_to_8();
+        self.examples_from_9();
+    }
+
+    fn examples_to_4(&mut self) {
         let at = |index| place(1, index);
-        let fresh = || Ids::new(&IdTables::empty(16));
         // K1, K2
         self.pack(7, 2);
         self.unpack(8_589_934_599);
         self.unpack(4_294_967_295);
         // K3
-        let mut ids = fresh();
-        (0..3).for_each(|i| self.id(&mut ids, IdCall::Alloc(at(i))));
-        self.id(&mut ids, IdCall::Free(bits(1, 1)));
-        self.id(&mut ids, IdCall::Free(bits(0, 1)));
+        let mut ids = Ids::new(&IdTables::empty(16));
+        (0..3).for_each(|i| self.id_example(&mut ids, IdCall::Alloc(at(i))));
+        self.id_example(&mut ids, IdCall::Free(bits(1, 1)));
+        self.id_example(&mut ids, IdCall::Free(bits(0, 1)));
         // K4, from these: one batch of two, or two singles, then a flush
         let pending = ids.tables();
         for batch in [true, false] {
             let mut ids = Ids::new(&pending);
             if batch {
-                self.id(&mut ids, IdCall::ReserveEntities(2));
+                self.id_example(&mut ids, IdCall::ReserveEntities(2));
             } else {
-                (0..2).for_each(|_| self.id(&mut ids, IdCall::ReserveEntity));
+                (0..2).for_each(|_| self.id_example(&mut ids, IdCall::ReserveEntity));
             }
-            self.id(&mut ids, IdCall::Flush(at(0)));
-            self.id(&mut ids, IdCall::Get(bits(1, 2)));
+            self.id_example(&mut ids, IdCall::Flush(at(0)));
+            self.id_example(&mut ids, IdCall::Get(bits(1, 2)));
         }
-        (0..3).for_each(|i| self.id(&mut ids, IdCall::Alloc(at(i + 5))));
+        (0..3).for_each(|i| self.id_example(&mut ids, IdCall::Alloc(at(i + 5))));
+    }
+
+    fn examples_5_to_8(&mut self) {
+        let at = |index| place(1, index);
+        let fresh = || Ids::new(&IdTables::empty(16));
         // K5
         let mut six = fresh();
-        (0..6).for_each(|i| self.id(&mut six, IdCall::Alloc(at(i))));
-        (0..6).for_each(|i| self.id(&mut six, IdCall::Free(bits(i, 1))));
+        (0..6).for_each(|i| self.id_example(&mut six, IdCall::Alloc(at(i))));
+        (0..6).for_each(|i| self.id_example(&mut six, IdCall::Free(bits(i, 1))));
         let mut all = Ids::new(&six.tables());
-        self.id(&mut six, IdCall::ReserveEntities(9));
-        self.id(&mut six, IdCall::Flush(at(0)));
-        self.id(&mut six, IdCall::Len);
+        self.id_example(&mut six, IdCall::ReserveEntities(9));
+        self.id_example(&mut six, IdCall::Flush(at(0)));
+        self.id_example(&mut six, IdCall::Len);
         self.outside(&all, IdCall::ReserveEntities(17));
-        self.id(&mut all, IdCall::ReserveEntities(16));
+        self.id_example(&mut all, IdCall::ReserveEntities(16));
         // K6
-        self.id(&mut fresh(), IdCall::ReserveEntities(0));
-        self.id(&mut Ids::new(&IdTables::empty(0)), IdCall::ReserveEntities(0));
+        self.id_example(&mut fresh(), IdCall::ReserveEntities(0));
+        self.id_example(&mut Ids::new(&IdTables::empty(0)), IdCall::ReserveEntities(0));
         // K7
         let mut last = fresh();
-        self.id(&mut last, IdCall::AllocAt(bits(0, u32::MAX), at(0)));
-        self.id(&mut last, IdCall::Free(bits(0, u32::MAX)));
+        self.id_example(&mut last, IdCall::AllocAt(bits(0, u32::MAX), at(0)));
+        self.id_example(&mut last, IdCall::Free(bits(0, u32::MAX)));
         // K8
         let mut chosen = fresh();
-        self.id(&mut chosen, IdCall::AllocAt(bits(5, 9), at(0)));
-        self.id(&mut chosen, IdCall::AllocAt(bits(2, 1), at(1)));
+        self.id_example(&mut chosen, IdCall::AllocAt(bits(5, 9), at(0)));
+        self.id_example(&mut chosen, IdCall::AllocAt(bits(2, 1), at(1)));
         self.outside(&chosen, IdCall::AllocAt(bits(16, 1), at(2)));
-        self.id(&mut chosen, IdCall::AllocAt(bits(15, 1), at(2)));
+        self.id_example(&mut chosen, IdCall::AllocAt(bits(15, 1), at(2)));
+    }
+
+    fn examples_from_9(&mut self) {
+        let at = |index| place(1, index);
+        let fresh = || Ids::new(&IdTables::empty(16));
         // K9, from pending [4, 1, 3]: a batch, and two singles
         let mut five = fresh();
-        (0..5).for_each(|i| self.id(&mut five, IdCall::Alloc(at(i))));
-        [4, 1, 3].iter().for_each(|n| self.id(&mut five, IdCall::Free(bits(*n, 1))));
+        (0..5).for_each(|i| self.id_example(&mut five, IdCall::Alloc(at(i))));
+        [4, 1, 3].iter().for_each(|n| self.id_example(&mut five, IdCall::Free(bits(*n, 1))));
         let mut singles = Ids::new(&five.tables());
-        self.id(&mut five, IdCall::AllocMany(2, at(7)));
-        (0..2).for_each(|i| self.id(&mut singles, IdCall::Alloc(at(i + 7))));
+        self.id_example(&mut five, IdCall::AllocMany(2, at(7)));
+        (0..2).for_each(|i| self.id_example(&mut singles, IdCall::Alloc(at(i + 7))));
         // K11, K13
         self.word(0, (1 << 63) - 1);
         self.word(0, 1 << 63);
@@ -525,11 +553,11 @@ impl List {
         self.word(3, (1 << 63) + 2);
         // K12
         let mut three = fresh();
-        (0..3).for_each(|i| self.id(&mut three, IdCall::Alloc(at(i))));
-        self.id(&mut three, IdCall::ReserveEntities(2));
-        self.id(&mut three, IdCall::Contains(bits(4, 1)));
-        self.id(&mut three, IdCall::Contains(bits(5, 1)));
-        self.id(&mut three, IdCall::Get(bits(4, 1)));
+        (0..3).for_each(|i| self.id_example(&mut three, IdCall::Alloc(at(i))));
+        self.id_example(&mut three, IdCall::ReserveEntities(2));
+        self.id_example(&mut three, IdCall::Contains(bits(4, 1)));
+        self.id_example(&mut three, IdCall::Contains(bits(5, 1)));
+        self.id_example(&mut three, IdCall::Get(bits(4, 1)));
         assert_eq!(three.get(bits(4, 1)), Ok(NOWHERE as Place));
     }
 }
@@ -601,7 +629,7 @@ fn of_ids(rng: &mut Rng) -> List {
         let mut ids = Ids::new(&tables);
         for _ in 0..if capacity < 2 { 8 } else { 24 } {
             let call = id_call(rng, &tables);
-            list.id(&mut ids, call);
+            let _outside = list.id(&mut ids, call);
             ids.dump(&mut tables);
         }
     }
@@ -615,14 +643,14 @@ fn of_columns(rng: &mut Rng) -> List {
     let mut list = List::new("replay_columns");
     let d = oracle::Declaration::of(&DECLARED);
     let mut columns = Columns::new(&d, &ColumnTables::empty(&d));
-    (10..13).for_each(|n| list.column(&mut columns, ColumnCall::Allocate(2, n)));
-    list.column(&mut columns, ColumnCall::Remove(2, 0));
-    list.column(&mut columns, ColumnCall::Remove(2, 1));
+    (10..13).for_each(|n| list.column_example(&mut columns, ColumnCall::Allocate(2, n)));
+    list.column_example(&mut columns, ColumnCall::Remove(2, 0));
+    list.column_example(&mut columns, ColumnCall::Remove(2, 1));
     for _ in 0..20 {
         let mut columns = Columns::new(&d, &column_tables(rng, &d));
         for _ in 0..30 {
             let call = column_call(rng, &d, &columns.tables());
-            list.column(&mut columns, call);
+            let _outside = list.column(&mut columns, call);
         }
     }
     let enough = list.calls + 300;
@@ -665,4 +693,28 @@ pub fn write(seed: u64) -> Vec<Written> {
         done: l.done.iter().map(|(call, times)| (call.0, call.1, *times)).collect(),
     });
     written.collect()
+}
+
+#[cfg(test)]
+mod tests {
+    use super::*;
+
+    #[test]
+    #[cfg_attr(no_hecs, ignore = "the original is missing: give its folder in HECS_SRC")]
+    #[should_panic(
+        expected = "AllocAt(4294967312, Place { archetype: 1, index: 0 }) lies outside: 4"
+    )]
+    fn an_example_that_is_not_compared_is_an_error() {
+        let mut ids = Ids::new(&IdTables::empty(16));
+        List::new("replay_ids").id_example(&mut ids, IdCall::AllocAt(bits(16, 1), place(1, 0)));
+    }
+
+    #[test]
+    #[cfg_attr(no_hecs, ignore = "the original is missing: give its folder in HECS_SRC")]
+    #[should_panic(expected = "Remove(2, 0) lies outside: 6")]
+    fn an_example_of_columns_that_is_not_compared_is_an_error() {
+        let d = oracle::Declaration::of(&DECLARED);
+        let mut columns = Columns::new(&d, &ColumnTables::empty(&d));
+        List::new("replay_columns").column_example(&mut columns, ColumnCall::Remove(2, 0));
+    }
 }
