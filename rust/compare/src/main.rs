@@ -25,6 +25,7 @@ mod walks;
 mod words;
 
 use ours::{Difference, Ours};
+use std::path::Path;
 use std::process::exit;
 use tally::Tally;
 
@@ -39,6 +40,18 @@ const RUNS: [(&str, u64, u64); 5] = [
     ("walks", 400_000, 20_000),
 ];
 
+/// A difference in words. Its script goes to the file, or stands here where that can't be written.
+fn told(difference: &Difference, file: &Path) -> String {
+    let Difference { words, script } = difference;
+    let name = file.display();
+    match std::fs::write(file, script) {
+        Ok(()) => format!("{words}\ncompare replay {name} makes that call again"),
+        Err(why) => format!(
+            "{words}\n{name}: {why}; in a file, these lines make that call again by compare replay:\n{script}"
+        ),
+    }
+}
+
 fn run(ours: &mut Ours, name: &str, seed: u64, count: u64) -> Result<(), String> {
     if let (Some(missing), true) = (oracle::MISSING, name != "store") {
         return Err(missing.to_string());
@@ -51,14 +64,10 @@ fn run(ours: &mut Ours, name: &str, seed: u64, count: u64) -> Result<(), String>
         "walks" => (walks::run(ours, &mut tally, seed, count), walks::WANTED.to_vec()),
         _ => (store::run(ours, &mut tally, seed, count), store::wanted()),
     };
-    if let Err(Difference { words, script }) = done {
+    if let Err(difference) = done {
         let file = std::env::temp_dir().join("verdict-difference.txt");
-        std::fs::write(&file, script).map_err(|why| why.to_string())?;
-        let calls = tally.calls();
-        let file = file.display();
-        return Err(format!(
-            "{name}, seed {seed}: {words}\nafter at most {calls} calls; compare replay {file} makes that call again"
-        ));
+        let (calls, told) = (tally.calls(), told(&difference, &file));
+        return Err(format!("{name}, seed {seed}, after at most {calls} calls: {told}"));
     }
     tally.print(&format!("## {name}, seed {seed}"));
     let mut missing = tally.missing(&wanted);
@@ -179,4 +188,25 @@ fn main() {
 fn usage() -> ! {
     eprintln!("usage: compare [short | words|ids|columns|store|walks [SEED [COUNT]] | replay FILE | list [SEED]]");
     exit(2)
+}
+
+#[cfg(test)]
+mod tests {
+    use super::*;
+
+    #[test]
+    fn a_difference_is_told_where_its_file_cannot_be_written() {
+        let difference =
+            Difference { words: "len: answered 1".to_string(), script: "a\nb\nc\n".to_string() };
+        let folder = std::env::temp_dir().join(format!("verdict-told-{}", std::process::id()));
+        let file = folder.join("difference.txt");
+        let text = told(&difference, &file);
+        assert!(text.starts_with("len: answered 1\n"), "{text}");
+        assert!(text.contains("No such file") && text.ends_with(":\na\nb\nc\n"), "{text}");
+        std::fs::create_dir(&folder).unwrap();
+        let text = told(&difference, &file);
+        assert!(text.ends_with("difference.txt makes that call again"), "{text}");
+        assert_eq!(std::fs::read_to_string(&file).unwrap(), "a\nb\nc\n");
+        std::fs::remove_dir_all(&folder).unwrap();
+    }
 }
