@@ -3,8 +3,8 @@
 //!
 //! The folder is given by HECS_SRC; a relative one counts from the repository's
 //! root. Without HECS_SRC it is `../shared/docs/src/src` from there. Where a
-//! file is absent the crate is built with the cfg `no_hecs`; where a file is
-//! another one the build stops.
+//! file is absent the build stops if HECS_SRC names the folder; else the crate
+//! is built with the cfg `no_hecs`. Where a file is another one the build stops.
 
 use std::path::PathBuf;
 use std::{env, fs, process};
@@ -44,6 +44,13 @@ fn main() {
         let path = folder.join(file);
         println!("cargo::rerun-if-changed={}", path.display());
         let Ok(bytes) = fs::read(&path) else {
+            if given.is_some() {
+                eprintln!(
+                    "HECS_SRC names a folder without the original: {} can't be read",
+                    path.display()
+                );
+                process::exit(1);
+            }
             println!("cargo::rustc-cfg=no_hecs");
             println!("cargo::metadata=missing=1");
             println!(

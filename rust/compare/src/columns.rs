@@ -28,6 +28,14 @@ fn kind(call: &ColumnCall) -> &'static str {
     }
 }
 
+/// How many tables a call is lent: a lookup the declaration alone.
+fn tables(call: &ColumnCall) -> u64 {
+    match call {
+        ColumnCall::Lookup(..) => 4,
+        _ => 7,
+    }
+}
+
 fn declared(e: Exchange, d: &Declaration) -> Exchange {
     e.lent("rows", &d.rows)
         .lent("widths", &d.widths)
@@ -105,7 +113,8 @@ pub fn run(ours: &mut Ours, tally: &mut Tally, seed: u64, count: u64) -> Result<
             let call = column_call(&mut rng, &d, &before);
             let said = columns.call(&call);
             columns.dump(&mut after);
-            let Some((code, values)) = tally.answered(kind(&call), 7, &call, said) else {
+            let Some((code, values)) = tally.answered(kind(&call), tables(&call), &call, said)
+            else {
                 continue;
             };
             ours.compare(exchange(&call, &d, &before, &after, code, &values))?;

@@ -169,7 +169,7 @@ pub fn run(ours: &mut Ours, tally: &mut Tally, seed: u64, count: u64) -> Result<
             ours.compare(exchange(&call, &before, &after, code, &values))?;
             if let (IdCall::AllocMany(..), 0) = (&call, code) {
                 for step in walk(&after.pending, &values) {
-                    tally.called("alloc many next", 0, 1);
+                    tally.called("alloc many next", 0, 2);
                     ours.compare(step)?;
                 }
             }

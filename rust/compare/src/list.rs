@@ -10,8 +10,8 @@
 //! leaves of the tables, as far as they were lent, and of those words or bytes.
 
 use crate::ours::{Apart, Exchange, CALLS};
-use crate::tables::{above_limit, damage_within, sound_of};
-use crate::{columns, ids, store};
+use crate::tables::{above_limit, crowd, damage_within, sound_of};
+use crate::{columns, ids, moves, store};
 use oracle::calls::{compared, ColumnCall, IdCall, Original, Player, WordCall};
 use oracle::sequences::{column_call, column_tables, id_call, id_tables, some_word, Rng, WORDS};
 use oracle::{bits, place, ColumnTables, Columns, IdTables, Ids, Place, NOWHERE};
@@ -157,16 +157,24 @@ const LEFT_OUT: &[&str] = &[
     "verdict_ids_alloc_many_len",
 ];
 
+/// The calls on a word: on it alone, and at a position of a table.
+const WORD_CALLS: [(&str, &str); 4] = [
+    ("verdict_word_shared", "verdict_word_shared_at"),
+    ("verdict_word_unique", "verdict_word_unique_at"),
+    ("verdict_word_release", "verdict_word_release_at"),
+    ("verdict_word_unique_release", "verdict_word_unique_release_at"),
+];
+
 /// What the calls on words and handles can answer; of the others, [`store::WANTED`] says it.
 const WANTED: &[(&str, &[u32])] = &[
     ("verdict_word_shared", &[0, 7, 9]),
     ("verdict_word_unique", &[0, 8]),
     ("verdict_word_release", &[0, 10, 11]),
     ("verdict_word_unique_release", &[0, 11]),
-    ("verdict_word_shared_at", &[0, 7, 9]),
-    ("verdict_word_unique_at", &[0, 8]),
-    ("verdict_word_release_at", &[0, 10, 11]),
-    ("verdict_word_unique_release_at", &[0, 11]),
+    ("verdict_word_shared_at", &[0, 7, 9, 13]),
+    ("verdict_word_unique_at", &[0, 8, 13]),
+    ("verdict_word_release_at", &[0, 10, 11, 13]),
+    ("verdict_word_unique_release_at", &[0, 11, 13]),
     ("verdict_handle_from_bits", &[0, 5]),
     ("verdict_handle_new", &[0, 5]),
 ];
@@ -186,6 +194,9 @@ const DECLARED: [(u32, &[(u32, u32)]); 6] = [
     (2, &[(12, 0), (4_000_000_000, 9)]),
 ];
 
+/// How often a call must have done what [`moves::WANTED`] names.
+const TIMES: usize = 20;
+
 /// How many words or bytes a program has room for beside its tables.
 const ROOM: usize = 80;
 
@@ -201,6 +212,8 @@ struct List {
     now: BTreeMap<&'static str, Vec<u64>>,
     /// Each call and each number that it answered.
     seen: BTreeSet<(&'static str, u32)>,
+    /// How often each call did what [`moves::WANTED`] names.
+    done: BTreeMap<(&'static str, &'static str), usize>,
     calls: usize,
 }
 
@@ -223,6 +236,7 @@ impl List {
             told: String::new(),
             now,
             seen: BTreeSet::new(),
+            done: BTreeMap::new(),
             calls: 0,
         }
     }
@@ -295,7 +309,7 @@ impl List {
 
     fn call(&mut self, e: &Exchange) {
         let (mut numbers, parts) = e.taken_apart();
-        let name = CALLS[e.index() as usize];
+        let name = e.name();
         let position = self.program.calls.iter().position(|c| *c == name).expect("its call");
         self.tell(&parts);
         let lengths = self.lengths(&parts);
@@ -329,14 +343,24 @@ impl List {
         let answer: String = out.iter().map(|v| format!(" {v:x}")).collect();
         let _ = writeln!(self.told, "{:x}{answer} {left:x}", e.code());
         self.seen.insert((name, e.code() as u32));
+        moves::done(e)
+            .into_iter()
+            .for_each(|what| *self.done.entry((name, what)).or_default() += 1);
         self.calls += 1;
+    }
+
+    /// Whether the call did this too few times.
+    fn rare(&self, call: &str, what: &str) -> bool {
+        self.done.get(&(call, what)).copied().unwrap_or(0) < TIMES
     }
 
     /// The call, if the program plays it and has room for it, and the list is not long enough or lacks it.
     fn add(&mut self, e: &Exchange, enough: usize) -> bool {
-        let name = CALLS[e.index() as usize];
+        let name = e.name();
         let fits = |p: &Apart| self.table(p.name).is_some() || p.before.len() <= ROOM;
-        let wanted = self.calls < enough || !self.seen.contains(&(name, e.code() as u32));
+        let lacks = !self.seen.contains(&(name, e.code() as u32))
+            || moves::done(e).iter().any(|what| self.rare(name, what));
+        let wanted = self.calls < enough || lacks;
         let added =
             wanted && self.program.calls.contains(&name) && e.taken_apart().1.iter().all(fits);
         if added {
@@ -345,14 +369,19 @@ impl List {
         added
     }
 
-    /// What must be in the list and is not: each call with each number that it can give.
+    /// What must be in the list and is not: each call with each number that it can give, and often
+    /// enough with what [`moves::WANTED`] names.
     fn missing(&self) -> Vec<String> {
         let lacks = |call: &'static str| {
             let codes =
                 wanted(call).iter().filter(move |code| !self.seen.contains(&(call, **code)));
             codes.map(move |code| format!("{}: {call} with {code}", self.program.name))
         };
-        self.program.calls.iter().flat_map(|call| lacks(call)).collect()
+        let missing = self.program.calls.iter().flat_map(|call| lacks(call));
+        let played = moves::WANTED.iter().filter(|w| self.program.calls.contains(&w.1));
+        let rare = played.filter(|w| self.rare(w.1, w.2));
+        let times = |w: &(_, &str, &str)| format!("{}: {}: {}", self.program.name, w.1, w.2);
+        missing.chain(rare.map(times)).collect()
     }
 
     /// What the program reads.
@@ -363,32 +392,39 @@ impl List {
         text
     }
 
-    fn id(&mut self, ids: &mut Ids, call: IdCall) {
+    /// The number with which document 01 refuses the call, where it lies outside what is compared.
+    fn id(&mut self, ids: &mut Ids, call: IdCall) -> Result<(), u32> {
         let before = ids.tables();
-        let Ok((code, values)) = compared(ids.call(&call), &call) else { return };
+        let (code, values) = compared(ids.call(&call), &call)?;
         let after = ids.tables();
         self.call(&ids::exchange(&call, &before, &after, code, &values));
         if let (IdCall::AllocMany(..), 0) = (call, code) {
             ids::walk(&after.pending, &values).iter().for_each(|e| self.call(e));
         }
+        Ok(())
     }
 
-    fn column(&mut self, columns: &mut Columns, call: ColumnCall) {
+    fn column(&mut self, columns: &mut Columns, call: ColumnCall) -> Result<(), u32> {
         let before = columns.tables();
-        let Ok((code, values)) = compared(columns.call(&call), &call) else { return };
+        let (code, values) = compared(columns.call(&call), &call)?;
         let d = columns.declaration().clone();
         self.call(&columns::exchange(&call, &d, &before, &columns.tables(), code, &values));
+        Ok(())
+    }
+
+    /// A call of document 01's examples: none of them may be lost.
+    fn id_example(&mut self, ids: &mut Ids, call: IdCall) {
+        self.id(ids, call).unwrap_or_else(|number| panic!("{call:?} lies outside: {number}"));
+    }
+
+    fn column_example(&mut self, columns: &mut Columns, call: ColumnCall) {
+        let said = self.column(columns, call.clone());
+        said.unwrap_or_else(|number| panic!("{call:?} lies outside: {number}"));
     }
 
     /// A word alone, and at position 3 of nine.
     fn word(&mut self, which: usize, word: u64) {
-        const NAMES: [(&str, &str); 4] = [
-            ("verdict_word_shared", "verdict_word_shared_at"),
-            ("verdict_word_unique", "verdict_word_unique_at"),
-            ("verdict_word_release", "verdict_word_release_at"),
-            ("verdict_word_unique_release", "verdict_word_unique_release_at"),
-        ];
-        let (alone, at) = NAMES[which];
+        let (alone, at) = WORD_CALLS[which];
         let mut after = word;
         let (code, _) = Original.word(&mut after, WordCall::ALL[which]);
         self.call(&Exchange::new(alone, code).array("word", &[word], &[after]));
@@ -396,6 +432,14 @@ impl List {
         (table[3], left[3]) = (word, after);
         let out = if code == 0 { vec![after] } else { Vec::new() };
         self.call(&Exchange::new(at, code).slice("words", &table, &left).numbers(&[3]).out(&out));
+    }
+
+    /// A position that a table of nine does not have: 13, as include/verdict_store.h says. Each word
+    /// is one on which the call is granted.
+    fn past(&mut self, which: usize, position: u64) {
+        let word = [0u64, 0, 1, 1 << 63][which];
+        let e = Exchange::new(WORD_CALLS[which].1, 13).lent("words", &[word; 9]);
+        self.call(&e.numbers(&[position]).out(&[]));
     }
 
     fn unpack(&mut self, bits: u64) {
@@ -433,60 +477,75 @@ impl List {
 
     /// Document 01's examples K1 to K13, but for K10.
     fn examples(&mut self) {
+        self.examples_to_4();
+        self.examples_5_to_8();
+        self.examples_from_9();
+    }
+
+    fn examples_to_4(&mut self) {
         let at = |index| place(1, index);
-        let fresh = || Ids::new(&IdTables::empty(16));
         // K1, K2
         self.pack(7, 2);
         self.unpack(8_589_934_599);
         self.unpack(4_294_967_295);
         // K3
-        let mut ids = fresh();
-        (0..3).for_each(|i| self.id(&mut ids, IdCall::Alloc(at(i))));
-        self.id(&mut ids, IdCall::Free(bits(1, 1)));
-        self.id(&mut ids, IdCall::Free(bits(0, 1)));
+        let mut ids = Ids::new(&IdTables::empty(16));
+        (0..3).for_each(|i| self.id_example(&mut ids, IdCall::Alloc(at(i))));
+        self.id_example(&mut ids, IdCall::Free(bits(1, 1)));
+        self.id_example(&mut ids, IdCall::Free(bits(0, 1)));
         // K4, from these: one batch of two, or two singles, then a flush
         let pending = ids.tables();
         for batch in [true, false] {
             let mut ids = Ids::new(&pending);
             if batch {
-                self.id(&mut ids, IdCall::ReserveEntities(2));
+                self.id_example(&mut ids, IdCall::ReserveEntities(2));
             } else {
-                (0..2).for_each(|_| self.id(&mut ids, IdCall::ReserveEntity));
+                (0..2).for_each(|_| self.id_example(&mut ids, IdCall::ReserveEntity));
             }
-            self.id(&mut ids, IdCall::Flush(at(0)));
-            self.id(&mut ids, IdCall::Get(bits(1, 2)));
+            self.id_example(&mut ids, IdCall::Flush(at(0)));
+            self.id_example(&mut ids, IdCall::Get(bits(1, 2)));
         }
-        (0..3).for_each(|i| self.id(&mut ids, IdCall::Alloc(at(i + 5))));
+        (0..3).for_each(|i| self.id_example(&mut ids, IdCall::Alloc(at(i + 5))));
+    }
+
+    fn examples_5_to_8(&mut self) {
+        let at = |index| place(1, index);
+        let fresh = || Ids::new(&IdTables::empty(16));
         // K5
         let mut six = fresh();
-        (0..6).for_each(|i| self.id(&mut six, IdCall::Alloc(at(i))));
-        (0..6).for_each(|i| self.id(&mut six, IdCall::Free(bits(i, 1))));
+        (0..6).for_each(|i| self.id_example(&mut six, IdCall::Alloc(at(i))));
+        (0..6).for_each(|i| self.id_example(&mut six, IdCall::Free(bits(i, 1))));
         let mut all = Ids::new(&six.tables());
-        self.id(&mut six, IdCall::ReserveEntities(9));
-        self.id(&mut six, IdCall::Flush(at(0)));
-        self.id(&mut six, IdCall::Len);
+        self.id_example(&mut six, IdCall::ReserveEntities(9));
+        self.id_example(&mut six, IdCall::Flush(at(0)));
+        self.id_example(&mut six, IdCall::Len);
         self.outside(&all, IdCall::ReserveEntities(17));
-        self.id(&mut all, IdCall::ReserveEntities(16));
+        self.id_example(&mut all, IdCall::ReserveEntities(16));
         // K6
-        self.id(&mut fresh(), IdCall::ReserveEntities(0));
-        self.id(&mut Ids::new(&IdTables::empty(0)), IdCall::ReserveEntities(0));
+        self.id_example(&mut fresh(), IdCall::ReserveEntities(0));
+        self.id_example(&mut Ids::new(&IdTables::empty(0)), IdCall::ReserveEntities(0));
         // K7
         let mut last = fresh();
-        self.id(&mut last, IdCall::AllocAt(bits(0, u32::MAX), at(0)));
-        self.id(&mut last, IdCall::Free(bits(0, u32::MAX)));
+        self.id_example(&mut last, IdCall::AllocAt(bits(0, u32::MAX), at(0)));
+        self.id_example(&mut last, IdCall::Free(bits(0, u32::MAX)));
         // K8
         let mut chosen = fresh();
-        self.id(&mut chosen, IdCall::AllocAt(bits(5, 9), at(0)));
-        self.id(&mut chosen, IdCall::AllocAt(bits(2, 1), at(1)));
+        self.id_example(&mut chosen, IdCall::AllocAt(bits(5, 9), at(0)));
+        self.id_example(&mut chosen, IdCall::AllocAt(bits(2, 1), at(1)));
         self.outside(&chosen, IdCall::AllocAt(bits(16, 1), at(2)));
-        self.id(&mut chosen, IdCall::AllocAt(bits(15, 1), at(2)));
+        self.id_example(&mut chosen, IdCall::AllocAt(bits(15, 1), at(2)));
+    }
+
+    fn examples_from_9(&mut self) {
+        let at = |index| place(1, index);
+        let fresh = || Ids::new(&IdTables::empty(16));
         // K9, from pending [4, 1, 3]: a batch, and two singles
         let mut five = fresh();
-        (0..5).for_each(|i| self.id(&mut five, IdCall::Alloc(at(i))));
-        [4, 1, 3].iter().for_each(|n| self.id(&mut five, IdCall::Free(bits(*n, 1))));
+        (0..5).for_each(|i| self.id_example(&mut five, IdCall::Alloc(at(i))));
+        [4, 1, 3].iter().for_each(|n| self.id_example(&mut five, IdCall::Free(bits(*n, 1))));
         let mut singles = Ids::new(&five.tables());
-        self.id(&mut five, IdCall::AllocMany(2, at(7)));
-        (0..2).for_each(|i| self.id(&mut singles, IdCall::Alloc(at(i + 7))));
+        self.id_example(&mut five, IdCall::AllocMany(2, at(7)));
+        (0..2).for_each(|i| self.id_example(&mut singles, IdCall::Alloc(at(i + 7))));
         // K11, K13
         self.word(0, (1 << 63) - 1);
         self.word(0, 1 << 63);
@@ -494,11 +553,11 @@ impl List {
         self.word(3, (1 << 63) + 2);
         // K12
         let mut three = fresh();
-        (0..3).for_each(|i| self.id(&mut three, IdCall::Alloc(at(i))));
-        self.id(&mut three, IdCall::ReserveEntities(2));
-        self.id(&mut three, IdCall::Contains(bits(4, 1)));
-        self.id(&mut three, IdCall::Contains(bits(5, 1)));
-        self.id(&mut three, IdCall::Get(bits(4, 1)));
+        (0..3).for_each(|i| self.id_example(&mut three, IdCall::Alloc(at(i))));
+        self.id_example(&mut three, IdCall::ReserveEntities(2));
+        self.id_example(&mut three, IdCall::Contains(bits(4, 1)));
+        self.id_example(&mut three, IdCall::Contains(bits(5, 1)));
+        self.id_example(&mut three, IdCall::Get(bits(4, 1)));
         assert_eq!(three.get(bits(4, 1)), Ok(NOWHERE as Place));
     }
 }
@@ -507,7 +566,9 @@ impl List {
 /// and every call and every number that it can give has occurred.
 fn of_second(list: &mut List, rng: &mut Rng, enough: usize) {
     let played = |i: &usize| list.program.calls.contains(&store::WANTED[*i].1);
-    let kinds: Vec<usize> = store::exported().into_iter().filter(played).collect();
+    let mut kinds: Vec<usize> = (0..store::WANTED.len()).filter(played).collect();
+    let moving: Vec<usize> =
+        kinds.iter().copied().filter(|i| moves::moves_rows(store::WANTED[*i].1)).collect();
     let ids = list.program.tables == IDS;
     if ids {
         let t = above_limit(rng);
@@ -516,6 +577,8 @@ fn of_second(list: &mut List, rng: &mut Rng, enough: usize) {
             list.add(&called, usize::MAX);
         }
     }
+    // the calls that move rows come twice as often as the others
+    kinds.extend(&moving);
     let d = oracle::Declaration::of(&DECLARED);
     for _ in 0..20_000 {
         if list.calls >= enough && list.missing().is_empty() {
@@ -529,9 +592,12 @@ fn of_second(list: &mut List, rng: &mut Rng, enough: usize) {
         };
         let capacity = if ids && rng.percent(10) { 1 } else { 16 };
         let mut t = sound_of(rng, d, capacity);
+        if !moving.is_empty() && rng.percent(75) {
+            crowd(rng, &mut t);
+        }
         damage_within(rng, &mut t);
         for _ in 0..15 {
-            let which = rng.pick(&kinds);
+            let which = store::next_call(rng, &kinds, &t);
             let (called, _, after) = store::made(rng, which, &t);
             if list.add(&called, enough) {
                 t = after;
@@ -548,6 +614,9 @@ fn of_ids(rng: &mut Rng) -> List {
     for w in WORDS {
         (0..4).for_each(|which| list.word(which, w));
     }
+    for position in [9, u64::MAX] {
+        (0..4).for_each(|which| list.past(which, position));
+    }
     for _ in 0..40 {
         let w = some_word(rng);
         list.word(rng.below(4) as usize, w);
@@ -560,7 +629,7 @@ fn of_ids(rng: &mut Rng) -> List {
         let mut ids = Ids::new(&tables);
         for _ in 0..if capacity < 2 { 8 } else { 24 } {
             let call = id_call(rng, &tables);
-            list.id(&mut ids, call);
+            let _outside = list.id(&mut ids, call);
             ids.dump(&mut tables);
         }
     }
@@ -574,14 +643,14 @@ fn of_columns(rng: &mut Rng) -> List {
     let mut list = List::new("replay_columns");
     let d = oracle::Declaration::of(&DECLARED);
     let mut columns = Columns::new(&d, &ColumnTables::empty(&d));
-    (10..13).for_each(|n| list.column(&mut columns, ColumnCall::Allocate(2, n)));
-    list.column(&mut columns, ColumnCall::Remove(2, 0));
-    list.column(&mut columns, ColumnCall::Remove(2, 1));
+    (10..13).for_each(|n| list.column_example(&mut columns, ColumnCall::Allocate(2, n)));
+    list.column_example(&mut columns, ColumnCall::Remove(2, 0));
+    list.column_example(&mut columns, ColumnCall::Remove(2, 1));
     for _ in 0..20 {
         let mut columns = Columns::new(&d, &column_tables(rng, &d));
         for _ in 0..30 {
             let call = column_call(rng, &d, &columns.tables());
-            list.column(&mut columns, call);
+            let _outside = list.column(&mut columns, call);
         }
     }
     let enough = list.calls + 300;
@@ -595,6 +664,8 @@ pub struct Written {
     pub list: String,
     pub told: String,
     pub calls: usize,
+    /// A call, what it did, and how often.
+    pub done: Vec<(&'static str, &'static str, usize)>,
 }
 
 /// Each program's list. A list's calls depend on the seed and the program alone.
@@ -619,6 +690,31 @@ pub fn write(seed: u64) -> Vec<Written> {
         list: l.text(),
         told: l.told,
         calls: l.calls,
+        done: l.done.iter().map(|(call, times)| (call.0, call.1, *times)).collect(),
     });
     written.collect()
+}
+
+#[cfg(test)]
+mod tests {
+    use super::*;
+
+    #[test]
+    #[cfg_attr(no_hecs, ignore = "the original is missing: give its folder in HECS_SRC")]
+    #[should_panic(
+        expected = "AllocAt(4294967312, Place { archetype: 1, index: 0 }) lies outside: 4"
+    )]
+    fn an_example_that_is_not_compared_is_an_error() {
+        let mut ids = Ids::new(&IdTables::empty(16));
+        List::new("replay_ids").id_example(&mut ids, IdCall::AllocAt(bits(16, 1), place(1, 0)));
+    }
+
+    #[test]
+    #[cfg_attr(no_hecs, ignore = "the original is missing: give its folder in HECS_SRC")]
+    #[should_panic(expected = "Remove(2, 0) lies outside: 6")]
+    fn an_example_of_columns_that_is_not_compared_is_an_error() {
+        let d = oracle::Declaration::of(&DECLARED);
+        let mut columns = Columns::new(&d, &ColumnTables::empty(&d));
+        List::new("replay_columns").column_example(&mut columns, ColumnCall::Remove(2, 0));
+    }
 }

@@ -1,6 +1,6 @@
 //! Compares the proved library with the original and with the second program.
 //!
-//!     compare                         all runs, two million calls
+//!     compare                         all runs, two million calls, and the fixed lists
 //!     compare short                   the same with fewer calls
 //!     compare words|ids|columns|store|walks [SEED [COUNT]]
 //!     compare replay FILE             a call that was answered otherwise, once more
@@ -16,6 +16,7 @@ mod columns;
 mod ids;
 mod list;
 mod make;
+mod moves;
 mod ours;
 mod store;
 mod tables;
@@ -24,6 +25,7 @@ mod walks;
 mod words;
 
 use ours::{Difference, Ours};
+use std::path::Path;
 use std::process::exit;
 use tally::Tally;
 
@@ -38,6 +40,18 @@ const RUNS: [(&str, u64, u64); 5] = [
     ("walks", 400_000, 20_000),
 ];
 
+/// A difference in words. Its script goes to the file, or stands here where that can't be written.
+fn told(difference: &Difference, file: &Path) -> String {
+    let Difference { words, script } = difference;
+    let name = file.display();
+    match std::fs::write(file, script) {
+        Ok(()) => format!("{words}\ncompare replay {name} makes that call again"),
+        Err(why) => format!(
+            "{words}\n{name}: {why}; in a file, these lines make that call again by compare replay:\n{script}"
+        ),
+    }
+}
+
 fn run(ours: &mut Ours, name: &str, seed: u64, count: u64) -> Result<(), String> {
     if let (Some(missing), true) = (oracle::MISSING, name != "store") {
         return Err(missing.to_string());
@@ -50,17 +64,16 @@ fn run(ours: &mut Ours, name: &str, seed: u64, count: u64) -> Result<(), String>
         "walks" => (walks::run(ours, &mut tally, seed, count), walks::WANTED.to_vec()),
         _ => (store::run(ours, &mut tally, seed, count), store::wanted()),
     };
-    if let Err(Difference { words, script }) = done {
+    if let Err(difference) = done {
         let file = std::env::temp_dir().join("verdict-difference.txt");
-        std::fs::write(&file, script).map_err(|why| why.to_string())?;
-        let calls = tally.calls();
-        let file = file.display();
-        return Err(format!(
-            "{name}, seed {seed}: {words}\nafter at most {calls} calls; compare replay {file} makes that call again"
-        ));
+        let (calls, told) = (tally.calls(), told(&difference, &file));
+        return Err(format!("{name}, seed {seed}, after at most {calls} calls: {told}"));
     }
     tally.print(&format!("## {name}, seed {seed}"));
-    let missing = tally.missing(&wanted);
+    let mut missing = tally.missing(&wanted);
+    if name == "store" {
+        missing.extend(tally.rare(moves::WANTED));
+    }
     if !missing.is_empty() {
         return Err(format!("{name}: {}", missing.join("; ")));
     }
@@ -90,7 +103,7 @@ fn write_list(seed: u64) -> Result<(), String> {
     if let Some(missing) = oracle::MISSING {
         return Err(missing.to_string());
     }
-    for list::Written { name, list, told, calls } in list::write(seed) {
+    for list::Written { name, list, told, calls, done } in list::write(seed) {
         let folder = make::repository().join("crates").join(name);
         let put = |file: &str, text: &str| {
             std::fs::create_dir_all(&folder)
@@ -100,7 +113,26 @@ fn write_list(seed: u64) -> Result<(), String> {
         put("stdin", &list)?;
         put("stdout", &told)?;
         println!("{name}: {calls} calls in {} bytes", list.len());
+        for (call, what, times) in done {
+            println!("{name}: {call}: {what}: {times} times");
+        }
     }
+    Ok(())
+}
+
+/// Whether the repository holds the lists that `list` writes, and the outputs.
+fn same_lists() -> Result<(), String> {
+    for list::Written { name, list, told, .. } in list::write(SEED) {
+        for (file, text) in [("stdin", list), ("stdout", told)] {
+            let file = format!("crates/{name}/{file}");
+            let held = std::fs::read_to_string(make::repository().join(&file))
+                .map_err(|why| format!("{file}: {why}"))?;
+            if held != text {
+                return Err(format!("{file} is not what `compare list` writes"));
+            }
+        }
+    }
+    println!("The fixed lists of the programs are those that `compare list` writes.");
     Ok(())
 }
 
@@ -118,10 +150,14 @@ fn all(short: bool) -> Result<(), String> {
         }
         run(&mut ours, name, SEED, if short { few } else { long })?;
     }
-    if let (Some(missing), false) = (oracle::MISSING, left_out.is_empty()) {
-        println!("{} were not compared: {missing}", left_out.join(", "));
+    if let Some(missing) = oracle::MISSING {
+        println!("{} and the fixed lists were not compared: {missing}", left_out.join(", "));
+        return Ok(());
     }
-    Ok(())
+    match ours.left()[..] {
+        [] => same_lists(),
+        ref left => Err(format!("no run compared {}", left.join(", "))),
+    }
 }
 
 fn main() {
@@ -152,4 +188,25 @@ fn main() {
 fn usage() -> ! {
     eprintln!("usage: compare [short | words|ids|columns|store|walks [SEED [COUNT]] | replay FILE | list [SEED]]");
     exit(2)
+}
+
+#[cfg(test)]
+mod tests {
+    use super::*;
+
+    #[test]
+    fn a_difference_is_told_where_its_file_cannot_be_written() {
+        let difference =
+            Difference { words: "len: answered 1".to_string(), script: "a\nb\nc\n".to_string() };
+        let folder = std::env::temp_dir().join(format!("verdict-told-{}", std::process::id()));
+        let file = folder.join("difference.txt");
+        let text = told(&difference, &file);
+        assert!(text.starts_with("len: answered 1\n"), "{text}");
+        assert!(text.contains("No such file") && text.ends_with(":\na\nb\nc\n"), "{text}");
+        std::fs::create_dir(&folder).unwrap();
+        let text = told(&difference, &file);
+        assert!(text.ends_with("difference.txt makes that call again"), "{text}");
+        assert_eq!(std::fs::read_to_string(&file).unwrap(), "a\nb\nc\n");
+        std::fs::remove_dir_all(&folder).unwrap();
+    }
 }

@@ -3,10 +3,13 @@
 //! `rt staticlib` writes an archive of each crate in [`CRATES`], for x86-64
 //! Linux. The kit's own compiler and linker put them together with serve.c,
 //! and on another processor the kit's emulator runs the result, as `rt` runs
-//! programs. The variable VERDICT_ARCHIVES names a folder of ready archives.
+//! programs. The variable VERDICT_ARCHIVES names a folder of ready archives; a
+//! relative one counts from the repository's root.
 
 use crate::ours::CALLS;
+use std::ffi::OsString;
 use std::fs;
+use std::io::ErrorKind;
 use std::path::{Path, PathBuf};
 use std::process::Command;
 use std::time::SystemTime;
@@ -40,19 +43,31 @@ fn newest(folder: &Path) -> Option<SystemTime> {
 }
 
 fn run(command: &mut Command) -> Result<String, String> {
-    let name = command.get_program().to_string_lossy().into_owned();
-    let out = command.output().map_err(|why| format!("{name}: {why}"))?;
+    let first = [command.get_program()].into_iter().chain(command.get_args().take(1));
+    let name = first.map(|word| word.to_string_lossy()).collect::<Vec<_>>().join(" ");
+    let out =
+        command.output().map_err(|why| match (command.get_program().to_str(), why.kind()) {
+            (Some("rt"), ErrorKind::NotFound) => {
+                "the Rattle kit is missing: put its command `rt` on the PATH".to_string()
+            }
+            _ => format!("{name}: {why}"),
+        })?;
     if !out.status.success() {
         let said = [out.stdout, out.stderr].concat();
-        return Err(format!("{name} failed:\n{}", String::from_utf8_lossy(&said)));
+        return Err(format!("{name}: {}:\n{}", out.status, String::from_utf8_lossy(&said)));
     }
     Ok(String::from_utf8_lossy(&out.stdout).into_owned())
 }
 
+/// The folder that a variable names; none where it is not set or empty.
+fn given(value: Option<OsString>) -> Option<PathBuf> {
+    value.filter(|folder| !folder.is_empty()).map(|folder| repository().join(folder))
+}
+
 /// The folder with the archives, each made anew where a source is younger.
 fn archives() -> Result<PathBuf, String> {
-    if let Some(folder) = std::env::var_os("VERDICT_ARCHIVES") {
-        return Ok(folder.into());
+    if let Some(folder) = given(std::env::var_os("VERDICT_ARCHIVES")) {
+        return Ok(folder);
     }
     let folder = repository().join("target/staticlib");
     let sources = newest(&repository().join("crates"));
@@ -68,8 +83,7 @@ fn archives() -> Result<PathBuf, String> {
 
 /// The command that starts the process.
 pub fn server() -> Result<Vec<String>, String> {
-    let told = run(Command::new("rt").arg("doc"))
-        .map_err(|_| "the Rattle kit is missing: put its command `rt` on the PATH".to_string())?;
+    let told = run(Command::new("rt").arg("doc"))?;
     let kit = Path::new(told.trim()).parent().and_then(Path::parent).ok_or("rt doc: no path")?;
     let kit = kit.join("on").join(std::env::consts::ARCH);
     let tools = kit.join("toolchain");
@@ -104,4 +118,26 @@ pub fn server() -> Result<Vec<String>, String> {
     }
     command.extend([loader, "--library-path".into(), library, program]);
     Ok(command.into_iter().map(|part| part.to_string_lossy().into_owned()).collect())
+}
+
+#[cfg(test)]
+mod tests {
+    use super::*;
+
+    #[test]
+    fn a_folder_counts_from_the_root_and_an_empty_one_is_none() {
+        assert_eq!(given(None), None);
+        assert_eq!(given(Some("".into())), None);
+        assert_eq!(given(Some("made/x86".into())), Some(repository().join("made/x86")));
+        assert_eq!(given(Some("/made".into())), Some("/made".into()));
+    }
+
+    #[test]
+    fn what_failed_is_told() {
+        let missing = run(Command::new("rt").arg("doc").env("PATH", "/nowhere"));
+        let sentence = "the Rattle kit is missing: put its command `rt` on the PATH";
+        assert_eq!(missing, Err(sentence.to_string()));
+        let failed = run(Command::new("sh").args(["-c", "echo no memory; exit 3"]));
+        assert_eq!(failed, Err("sh -c: exit status: 3:\nno memory\n".to_string()));
+    }
 }

@@ -1,11 +1,12 @@
 //! The proved library as another process: frames of calls go in, what each
 //! call answered and left comes back. serve.c tells the form.
 
+use std::collections::BTreeSet;
 use std::fmt::Write as _;
 use std::io::{Read, Write};
 use std::process::{Child, Command, Stdio};
 
-/// Every exported call. A frame names a call by its position here.
+/// Every call that include/verdict_store.h declares. A frame names a call by its position here.
 pub const CALLS: &[&str] = &[
     "verdict_word_shared",
     "verdict_word_unique",
@@ -207,14 +208,13 @@ impl Exchange {
         (numbers, parts)
     }
 
+    pub fn name(&self) -> &'static str {
+        self.call
+    }
+
     /// What the call must answer.
     pub fn code(&self) -> u64 {
         u64::from_le_bytes(self.expected[..8].try_into().unwrap())
-    }
-
-    /// The call's position among all.
-    pub fn index(&self) -> u64 {
-        u64::from_le_bytes(self.frame[..8].try_into().unwrap())
     }
 
     /// What differs, in words.
@@ -275,6 +275,7 @@ pub fn from_script(text: &str) -> Option<(Vec<u8>, Vec<u8>)> {
 /// The process that makes the calls.
 pub struct Ours {
     child: Child,
+    compared: BTreeSet<&'static str>,
     waiting: Vec<Exchange>,
     bytes: usize,
 }
@@ -293,7 +294,7 @@ impl Ours {
             .stdin(Stdio::piped())
             .stdout(Stdio::piped())
             .spawn()?;
-        Ok(Ours { child, waiting: Vec::new(), bytes: 0 })
+        Ok(Ours { child, compared: BTreeSet::new(), waiting: Vec::new(), bytes: 0 })
     }
 
     /// The answers to these frames.
@@ -338,11 +339,17 @@ impl Ours {
     /// Compares this call, now or with the next ones.
     pub fn compare(&mut self, exchange: Exchange) -> Result<(), Difference> {
         self.bytes += exchange.frame.len();
+        self.compared.insert(exchange.call);
         self.waiting.push(exchange);
         if self.bytes < 1 << 20 {
             return Ok(());
         }
         self.settle()
+    }
+
+    /// The calls that were not compared.
+    pub fn left(&self) -> Vec<&'static str> {
+        CALLS.iter().copied().filter(|call| !self.compared.contains(call)).collect()
     }
 }
 
@@ -350,5 +357,23 @@ impl Drop for Ours {
     fn drop(&mut self) {
         drop(self.child.stdin.take());
         let _ = self.child.wait();
+    }
+}
+
+#[cfg(test)]
+mod tests {
+    use super::CALLS;
+    use std::collections::BTreeSet;
+
+    #[test]
+    fn the_calls_are_those_that_the_header_declares() {
+        let header = crate::make::repository().join("include/verdict_store.h");
+        let text = std::fs::read_to_string(header).unwrap();
+        let declared = text.lines().filter_map(|line| line.strip_prefix("uint32_t verdict_"));
+        let declared: BTreeSet<String> =
+            declared.map(|rest| format!("verdict_{}", rest.split('(').next().unwrap())).collect();
+        let calls: BTreeSet<String> = CALLS.iter().map(|call| call.to_string()).collect();
+        assert_eq!(calls.len(), CALLS.len(), "a call stands twice");
+        assert_eq!(calls, declared);
     }
 }

@@ -1,14 +1,16 @@
 //! The store, and the id and column calls on any tables, against the second program.
 
-use crate::ours::{Difference, Exchange, Ours, CALLS};
+use crate::moves;
+use crate::ours::{Difference, Exchange, Ours};
 use crate::tables::{
-    above_limit, bytes, damage, row_width, size_of, some_handle, some_type, sound,
+    above_limit, bytes, crowded, damage, row_width, size_of, some_handle, some_type, sound,
 };
 use crate::tally::Tally;
 use oracle::sequences::Rng;
+use second::rules::flushed;
 use second::{columns, ids, store, Place, Tables, MAX};
 
-/// What each call can answer. A call that is not exported is left out.
+/// What each call can answer.
 pub const WANTED: &[(&str, &str, &[u32])] = &[
     ("ids reserve entity", "verdict_ids_reserve_entity", &[0, 12, 13, 1, 4]),
     ("ids reserve entities", "verdict_ids_reserve_entities", &[0, 12, 13, 1, 4]),
@@ -54,9 +56,9 @@ pub const WANTED: &[(&str, &str, &[u32])] = &[
     ("len", "verdict_store_len", &[0, 12, 13, 1]),
 ];
 
-/// Those that the library exports.
+/// The same by kind alone.
 pub fn wanted() -> Vec<(&'static str, &'static [u32])> {
-    WANTED.iter().filter(|w| CALLS.contains(&w.1)).map(|w| (w.0, w.2)).collect()
+    WANTED.iter().map(|w| (w.0, w.2)).collect()
 }
 
 /// A call's arguments. Each kind of call uses some of them.
@@ -137,6 +139,17 @@ fn arguments(rng: &mut Rng, t: &Tables) -> Arguments {
             next,
             new_end: next.saturating_sub(1) + rng.below(3) as u32,
         },
+    }
+}
+
+/// Other arguments for a call that moves rows: those of a row that is there, by which the call is
+/// granted where nothing else is in its way.
+fn aim(rng: &mut Rng, kind: &str, t: &Tables, x: &mut Arguments) {
+    if !["insert", "remove"].contains(&kind) {
+        x.bits = moves::row_step(rng, t).unwrap_or(x.bits);
+    } else if let Some((bits, ty)) = moves::component_step(rng, t, kind == "insert") {
+        let size = size_of(&t.declaration, ty).unwrap_or(0).min(70);
+        (x.bits, x.ty, x.value) = (bits, ty, bytes(rng, size));
     }
 }
 
@@ -337,7 +350,10 @@ fn tables(kind: &str) -> u64 {
 /// A random call of this kind: its exchange by the second program, the number, and what it left.
 pub fn made(rng: &mut Rng, which: usize, t: &Tables) -> (Exchange, u32, Tables) {
     let (kind, name, _) = WANTED[which];
-    let x = arguments(rng, t);
+    let mut x = arguments(rng, t);
+    if moves::moves_rows(name) && rng.percent(60) {
+        aim(rng, kind, t, &mut x);
+    }
     let s = answered(kind, t, &x);
     (exchange(kind, name, t, &x, &s), s.code, s.after)
 }
@@ -353,22 +369,35 @@ fn play(
     let kind = WANTED[which].0;
     let (exchange, code, after) = made(rng, which, t);
     tally.called(kind, code, tables(kind));
+    moves::done(&exchange).into_iter().for_each(|what| tally.done(kind, what));
     ours.compare(exchange)?;
     Ok(after)
 }
 
-/// The positions in [`WANTED`] of what the library exports.
-pub fn exported() -> Vec<usize> {
-    (0..WANTED.len()).filter(|i| CALLS.contains(&WANTED[*i].1)).collect()
+/// The position of the next call. Where a flush is owed and would be granted, half of the time it is
+/// that, since the calls that move rows are refused until then; a clear, which leaves them no row,
+/// comes less often than the others.
+pub fn next_call(rng: &mut Rng, calls: &[usize], t: &Tables) -> usize {
+    let flush = calls.iter().copied().find(|i| WANTED[*i].0 == "flush");
+    if let (Some(flush), false) = (flush, flushed(t)) {
+        if rng.percent(50) && store::flush(&mut t.clone()).is_ok() {
+            return flush;
+        }
+    }
+    let which = rng.pick(calls);
+    if WANTED[which].0.ends_with("clear") && rng.percent(75) {
+        return rng.pick(calls);
+    }
+    which
 }
 
 /// Short sequences until there were `count` calls: of store calls, mostly on
 /// sound tables, and of all calls on tables of every kind; now and then every
 /// call at a capacity above the limit.
 pub fn run(ours: &mut Ours, tally: &mut Tally, seed: u64, count: u64) -> Result<(), Difference> {
-    let exported = exported();
+    let every: Vec<usize> = (0..WANTED.len()).collect();
     let of_store = |i: &usize| WANTED[*i].1.starts_with("verdict_store");
-    let store: Vec<usize> = exported.iter().copied().filter(of_store).collect();
+    let store: Vec<usize> = every.iter().copied().filter(of_store).collect();
     let mut rng = Rng(seed);
     for s in 0.. {
         if tally.calls() >= count {
@@ -376,21 +405,18 @@ pub fn run(ours: &mut Ours, tally: &mut Tally, seed: u64, count: u64) -> Result<
         }
         if s % 1000 == 0 {
             let t = above_limit(&mut rng);
-            for which in &exported {
+            for which in &every {
                 play(ours, tally, &mut rng, *which, &t)?;
             }
         }
-        let mut t = sound(&mut rng);
+        let mut t = if rng.percent(50) { crowded(&mut rng) } else { sound(&mut rng) };
         let mixed = rng.percent(50);
         if mixed || rng.percent(30) {
             damage(&mut rng, &mut t);
         }
-        let calls = if mixed { &exported } else { &store };
+        let calls = if mixed { &every } else { &store };
         for _ in 0..20 {
-            let which = rng.pick(calls);
-            if WANTED[which].0.ends_with("clear") && rng.percent(50) {
-                continue;
-            }
+            let which = next_call(&mut rng, calls, &t);
             t = play(ours, tally, &mut rng, which, &t)?;
         }
     }

@@ -29,14 +29,33 @@ fn declaration(rng: &mut Rng) -> Declaration {
             sets.push(set);
         }
     }
+    of_sets(rng, &sets, &[0, 1, 5, 5, 9, 20])
+}
+
+/// An archetype for each set of types and sizes, with one of these numbers of rows.
+fn of_sets(rng: &mut Rng, sets: &[Vec<(u32, u32)>], rows: &[u32]) -> Declaration {
     let mut d = Declaration::default();
-    for set in &sets {
-        d.rows.push(rng.pick(&[0, 1, 5, 5, 9, 20]));
+    for set in sets {
+        d.rows.push(rng.pick(rows));
         d.widths.push(set.len() as u32);
         d.types.extend(set.iter().map(|c| c.0));
         d.sizes.extend(set.iter().map(|c| c.1));
     }
     d
+}
+
+/// A declaration of every set of two to four types: each insert and remove has its target.
+fn every_set(rng: &mut Rng) -> Declaration {
+    let most = rng.pick(&[2u32, 3, 4]);
+    let pool: Vec<(u32, u32)> = (0..most)
+        .map(|k| (k * 1000 + rng.below(1000) as u32, rng.pick(&[0, 1, 4, 8, 64])))
+        .collect();
+    let mut sets: Vec<Vec<(u32, u32)>> = vec![Vec::new()];
+    for component in pool {
+        let larger: Vec<_> = sets.iter().map(|set| [&set[..], &[component]].concat()).collect();
+        sets.extend(larger);
+    }
+    of_sets(rng, &sets, &[2, 5, 9])
 }
 
 /// The columns of an archetype, as far as the lists go.
@@ -45,6 +64,11 @@ fn columns_of(d: &Declaration, archetype: usize) -> std::ops::Range<usize> {
     let start: usize = (0..archetype.min(d.widths.len())).map(width).sum();
     let end = (start + width(archetype)).min(d.sizes.len());
     start.min(end)..end
+}
+
+/// The types of an archetype; none where the lists are too short.
+pub fn types_of(d: &Declaration, archetype: usize) -> &[u32] {
+    d.types.get(columns_of(d, archetype)).unwrap_or(&[])
 }
 
 /// Bytes of a row, as far as the lists go.
@@ -81,6 +105,18 @@ fn held(rng: &mut Rng, t: &Tables) -> u32 {
     let count = t.row_counts.get(archetype).copied().unwrap_or(0);
     let row = first.wrapping_add(below(rng, count as usize) as u32);
     t.row_numbers.get(row as usize).copied().unwrap_or(t.row_numbers[0])
+}
+
+/// The handle of the number in a row of this archetype, mostly not in the last one.
+pub fn row_handle(rng: &mut Rng, t: &Tables, archetype: usize) -> Option<u64> {
+    let count = t.row_counts.get(archetype).copied().unwrap_or(0) as usize;
+    let rows = if rng.percent(75) { count.saturating_sub(1) } else { count };
+    let row = below(rng, rows);
+    let before = t.declaration.rows.iter().take(archetype);
+    let first = before.fold(0usize, |sum, rows| sum.saturating_add(*rows as usize));
+    let number = *t.row_numbers.get(first.saturating_add(row))?;
+    let generation = *t.generations.get(number as usize)?;
+    Some(u64::from(generation) << 32 | u64::from(number))
 }
 
 /// A handle of any kind: live, reserved, freed, of an older or a later
@@ -120,6 +156,15 @@ pub fn sound(rng: &mut Rng) -> Tables {
     sound_of(rng, d, capacity)
 }
 
+/// Sound tables for the calls that move rows.
+pub fn crowded(rng: &mut Rng) -> Tables {
+    let capacity = rng.pick(&[16, 40]);
+    let d = every_set(rng);
+    let mut t = sound_of(rng, d, capacity);
+    crowd(rng, &mut t);
+    t
+}
+
 /// Sound tables, by the second program's own calls from empty ones.
 pub fn sound_of(rng: &mut Rng, d: Declaration, capacity: usize) -> Tables {
     let mut t = fresh(d, capacity);
@@ -154,6 +199,20 @@ pub fn sound_of(rng: &mut Rng, d: Declaration, capacity: usize) -> Tables {
         }
     }
     t
+}
+
+/// What the calls that move rows need: no word held, nothing reserved, and more rows. Where
+/// archetype 0 has no room for what is reserved, the rows there were are cleared.
+pub fn crowd(rng: &mut Rng, t: &mut Tables) {
+    t.words.fill(0);
+    if store::flush(t).is_err() {
+        let _ = store::clear(t);
+    }
+    for _ in 0..rng.below(20) {
+        let archetype = rng.below(t.declaration.rows.len() as u64) as u32;
+        let run = bytes(rng, row_width(&t.declaration, archetype));
+        let _ = store::spawn(t, archetype, &run);
+    }
 }
 
 fn odd(rng: &mut Rng) -> u32 {

@@ -11,6 +11,8 @@ struct Kind {
     answers: BTreeMap<u32, u64>,
     /// Calls left out because document 01 refuses them with this number and the original has no such refusal.
     outside: BTreeMap<u32, u64>,
+    /// How often a granted call did this beside what each does.
+    done: BTreeMap<&'static str, u64>,
 }
 
 #[derive(Debug, Default)]
@@ -24,6 +26,11 @@ impl Tally {
     pub fn called(&mut self, kind: &'static str, code: u32, tables: u64) {
         *self.kinds.entry(kind).or_default().answers.entry(code).or_default() += 1;
         self.tables += tables;
+    }
+
+    /// What a call that is counted did.
+    pub fn done(&mut self, kind: &'static str, what: &'static str) {
+        *self.kinds.entry(kind).or_default().done.entry(what).or_default() += 1;
     }
 
     pub fn left_out(&mut self, kind: &'static str, code: u32) {
@@ -68,6 +75,9 @@ impl Tally {
             let granted = kind.answers.get(&0).copied().unwrap_or(0);
             let (refused, outside) = (list(&kind.answers), list(&kind.outside));
             println!("| {name} | {calls} | {granted} | {refused} | {outside} |");
+            for (what, n) in &kind.done {
+                println!("| {name}: {what} |  | {n} |  |  |");
+            }
         }
         let outside: u64 = self.kinds.values().flat_map(|k| k.outside.values()).sum();
         println!(
@@ -92,5 +102,32 @@ impl Tally {
             missing.extend(others.map(|code| format!("{name} is not known to answer {code}")));
         }
         missing
+    }
+
+    /// What must have been done, by call, and was done in fewer than one of a thousand calls.
+    pub fn rare(&self, wanted: &[(&'static str, &'static str, &'static str)]) -> Vec<String> {
+        let least = self.calls() / 1000 + 1;
+        let times = |kind: &str, what: &str| {
+            self.kinds.get(kind).and_then(|k| k.done.get(what)).copied().unwrap_or(0)
+        };
+        let few = wanted.iter().filter(|w| times(w.0, w.2) < least);
+        few.map(|w| format!("{}: {} {} times of {least}", w.0, w.2, times(w.0, w.2))).collect()
+    }
+}
+
+#[cfg(test)]
+mod tests {
+    use super::*;
+
+    #[test]
+    fn what_is_done_in_fewer_than_one_of_a_thousand_calls_is_rare() {
+        let mut tally = Tally::default();
+        (0..2999).for_each(|_| tally.called("insert", 0, 13));
+        let wanted = [("insert", "verdict_store_insert", "a fall")];
+        assert_eq!(tally.rare(&wanted), ["insert: a fall 0 times of 3"]);
+        (0..2).for_each(|_| tally.done("insert", "a fall"));
+        assert_eq!(tally.rare(&wanted), ["insert: a fall 2 times of 3"]);
+        tally.done("insert", "a fall");
+        assert_eq!(tally.rare(&wanted), [""; 0]);
     }
 }

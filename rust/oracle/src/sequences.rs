@@ -531,6 +531,8 @@ pub fn replay(list: &str, player: &mut impl Player) -> Result<usize, String> {
     let mut owed: Option<(Answer, usize)> = None;
     // tables are being told before the first call
     let mut opening = false;
+    // the tables after the last call are not told yet
+    let mut untold = false;
     for (at, line) in list.lines().enumerate() {
         let wrong = |why: String| Err(format!("line {}: {why}", at + 1));
         let (letter, rest) = line.split_at(line.len().min(1));
@@ -541,12 +543,17 @@ pub fn replay(list: &str, player: &mut impl Player) -> Result<usize, String> {
         let Some(v) = parsed else {
             return wrong(format!("not numbers: {line}"));
         };
-        if letter != "+" {
-            if let Some((answer, told)) = &owed {
-                if *told > 0 && *told != answer.1.len() + 1 {
-                    return wrong(format!("the answer ended before {answer:?}"));
-                }
+        let goes_on = |told: usize| letter == "+" || letter == "r" && told == 0;
+        if let Some((answer, told)) = &owed {
+            if !goes_on(*told) && *told != answer.1.len() + 1 {
+                return wrong(format!("the answer ended before {answer:?}"));
             }
+        }
+        if untold && ["I", "C", "c"].contains(&letter) {
+            return wrong("the tables after the call before are not told".to_string());
+        }
+        if opening && letter == "c" {
+            return wrong("the tables before the first call are not told".to_string());
         }
         let fine = match (letter, &mut lent) {
             ("I", _) if v.len() == 1 => {
@@ -594,7 +601,7 @@ pub fn replay(list: &str, player: &mut impl Player) -> Result<usize, String> {
             ("k", Lent::Columns { told, .. }) => lay(&mut told.row_counts, &v),
             ("b", Lent::Columns { told, .. }) => lay(&mut told.bytes, &v),
             (".", lent) => {
-                owed = None;
+                (owed, untold) = (None, false);
                 match lent {
                     Lent::Ids { now, told } if opening => now.clone_from(told),
                     Lent::Columns { now, told, .. } if opening => now.clone_from(told),
@@ -612,7 +619,9 @@ pub fn replay(list: &str, player: &mut impl Player) -> Result<usize, String> {
             ("c", lent) => {
                 let arguments: Option<Vec<u64>> =
                     v.iter().map(|x| u64::try_from(*x).ok()).collect();
-                let answer = match (arguments.and_then(|a| Call::from_numbers(&a)), lent) {
+                let call = arguments.and_then(|a| Call::from_numbers(&a));
+                untold = matches!(call, Some(Call::Ids(_) | Call::Columns(_)));
+                let answer = match (call, lent) {
                     (Some(Call::Ids(call)), Lent::Ids { now, .. }) => player.ids(now, &call),
                     (Some(Call::Columns(call)), Lent::Columns { d, now, .. }) => {
                         player.columns(d, now, &call)
@@ -655,6 +664,7 @@ pub fn replay(list: &str, player: &mut impl Player) -> Result<usize, String> {
         Some((answer, told)) if told != answer.1.len() + 1 => {
             Err("the list ends inside an answer".to_string())
         }
+        _ if untold => Err("the list ends before the tables after the last call".to_string()),
         _ => Ok(calls),
     }
 }

@@ -121,6 +121,45 @@ mod of_the_original {
         assert!(replay(&cut.join("\n"), &mut Original).is_err());
     }
 
+    /// Why a list is wrong.
+    fn wrong(list: &[&str]) -> String {
+        replay(&list.join("\n"), &mut Original).unwrap_err()
+    }
+
+    #[test]
+    fn an_answer_that_is_not_told_is_noticed() {
+        // two allocs, of number 0 and of number 1
+        let told = ["I 2", ".", "c 3 0 0", "r 0 4294967296", "h 1 0 0 1", "g 0 1", "."];
+        let more = ["c 3 0 1", "r 0 4294967297", "h 2 0 0 2", "g 1 1", "x 1 1", "."];
+        let all = [&told[..], &more[..]].concat();
+        assert_eq!(replay(&all.join("\n"), &mut Original), Ok(2));
+        for answer in [3, 8] {
+            let mut without = all.clone();
+            without.remove(answer);
+            let why = format!("line {}: the answer ended before", answer + 1);
+            assert!(wrong(&without).starts_with(&why), "{}", wrong(&without));
+        }
+        let words = ["c 31 0", "r 0 1", "c 31 1", "r 0 2"];
+        assert_eq!(replay(&words.join("\n"), &mut Original), Ok(2));
+        assert!(wrong(&[words[0], words[2], words[3]]).starts_with("line 2: the answer ended"));
+        assert_eq!(wrong(&words[..3]), "the list ends inside an answer");
+    }
+
+    #[test]
+    fn tables_that_are_not_told_are_noticed() {
+        let told = ["I 1", ".", "c 12", "r 0 0", ".", "c 12", "r 0 0", "."];
+        assert_eq!(replay(&told.join("\n"), &mut Original), Ok(2));
+        assert_eq!(wrong(&told[..7]), "the list ends before the tables after the last call");
+        for (dot, why) in [
+            (1, "line 2: the tables before the first call are not told"),
+            (4, "line 5: the tables after the call before are not told"),
+        ] {
+            let mut without = told.to_vec();
+            without.remove(dot);
+            assert_eq!(wrong(&without), why);
+        }
+    }
+
     /// The batch hands out pending numbers in pop order: document 01's first
     /// error that looks right.
     struct PopOrder;
