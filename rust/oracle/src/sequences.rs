@@ -525,146 +525,224 @@ fn lay<T: TryFrom<i128> + Copy>(table: &mut [T], v: &[i128]) -> Option<()> {
 /// Plays a list and compares every answer and every table. Answers how many
 /// calls were played, or the first line that is wrong and why.
 pub fn replay(list: &str, player: &mut impl Player) -> Result<usize, String> {
-    let mut lent = Lent::Nothing;
-    let mut calls = 0;
-    // what the player answered and the list hasn't told yet
-    let mut owed: Option<(Answer, usize)> = None;
-    // tables are being told before the first call
-    let mut opening = false;
-    // the tables after the last call are not told yet
-    let mut untold = false;
-    for (at, line) in list.lines().enumerate() {
-        let wrong = |why: String| Err(format!("line {}: {why}", at + 1));
-        let (letter, rest) = line.split_at(line.len().min(1));
+    let mut reader = Reader {
+        player,
+        lent: Lent::Nothing,
+        calls: 0,
+        owed: None,
+        opening: false,
+        untold: false,
+    };
+    for (at, text) in list.lines().enumerate() {
+        reader.line(text).map_err(|why| format!("line {}: {why}", at + 1))?;
+    }
+    reader.finish()
+}
+
+/// A line that is not a remark.
+struct Line<'a> {
+    text: &'a str,
+    letter: &'a str,
+    values: Vec<i128>,
+}
+
+impl Line<'_> {
+    fn out_of_place(&self) -> String {
+        format!("out of place: {}", self.text)
+    }
+}
+
+/// The player, the tables lent to it and what the lines so far left open.
+struct Reader<'a, P> {
+    player: &'a mut P,
+    lent: Lent,
+    calls: usize,
+    /// What the player answered, and how many values of it the list told.
+    owed: Option<(Answer, usize)>,
+    /// Tables are being told before the first call.
+    opening: bool,
+    /// The tables after the last call are not told yet.
+    untold: bool,
+}
+
+impl<P: Player> Reader<'_, P> {
+    fn line(&mut self, text: &str) -> Result<(), String> {
+        let (letter, rest) = text.split_at(text.len().min(1));
         if letter == "#" {
-            continue;
+            return Ok(());
         }
         let parsed: Option<Vec<i128>> = rest.split_whitespace().map(|v| v.parse().ok()).collect();
-        let Some(v) = parsed else {
-            return wrong(format!("not numbers: {line}"));
-        };
-        let goes_on = |told: usize| letter == "+" || letter == "r" && told == 0;
-        if let Some((answer, told)) = &owed {
-            if !goes_on(*told) && *told != answer.1.len() + 1 {
-                return wrong(format!("the answer ended before {answer:?}"));
-            }
-        }
-        if untold && ["I", "C", "c"].contains(&letter) {
-            return wrong("the tables after the call before are not told".to_string());
-        }
-        if opening && letter == "c" {
-            return wrong("the tables before the first call are not told".to_string());
-        }
-        let fine = match (letter, &mut lent) {
-            ("I", _) if v.len() == 1 => {
-                let t = IdTables::empty(v[0] as usize);
-                lent = Lent::Ids { now: t.clone(), told: t };
-                opening = true;
-                Some(())
-            }
-            ("C", _) if v.len() == 1 => {
-                let (d, now, told) = Default::default();
-                lent = Lent::Columns { left: v[0] as usize, d, now, told };
-                opening = true;
-                Some(())
-            }
-            ("d", Lent::Columns { left, d, now, told }) if *left > 0 && v.len() % 2 == 1 => {
-                *left -= 1;
-                d.rows.push(v[0] as u32);
-                d.widths.push(v.len() as u32 / 2);
-                d.types.extend(v[1..].iter().step_by(2).map(|x| *x as u32));
-                d.sizes.extend(v[2.min(v.len())..].iter().step_by(2).map(|x| *x as u32));
-                if *left == 0 {
-                    if !d.is_allowed() {
-                        return wrong("not an allowed declaration".to_string());
-                    }
-                    *now = ColumnTables::empty(d);
-                    *told = now.clone();
-                }
-                Some(())
-            }
-            ("h", Lent::Ids { told, .. }) if v.len() == 4 => {
-                let [used, pending, cursor, live] = [v[0], v[1], v[2], v[3]];
-                told.head = Head {
-                    used: used as usize,
-                    pending: pending as usize,
-                    cursor: cursor as i64,
-                    live: live as u32,
-                };
-                Some(())
-            }
-            ("g", Lent::Ids { told, .. }) => lay(&mut told.generations, &v),
-            ("a", Lent::Ids { told, .. }) => lay(&mut told.archetypes, &v),
-            ("x", Lent::Ids { told, .. }) => lay(&mut told.indices, &v),
-            ("p", Lent::Ids { told, .. }) => lay(&mut told.pending, &v),
-            ("n", Lent::Columns { told, .. }) => lay(&mut told.row_numbers, &v),
-            ("k", Lent::Columns { told, .. }) => lay(&mut told.row_counts, &v),
-            ("b", Lent::Columns { told, .. }) => lay(&mut told.bytes, &v),
-            (".", lent) => {
-                (owed, untold) = (None, false);
-                match lent {
-                    Lent::Ids { now, told } if opening => now.clone_from(told),
-                    Lent::Columns { now, told, .. } if opening => now.clone_from(told),
-                    Lent::Ids { now, told } if now != told => {
-                        return wrong(format!("tables: told {told:?}, are {now:?}"))
-                    }
-                    Lent::Columns { now, told, .. } if now != told => {
-                        return wrong(format!("tables: told {told:?}, are {now:?}"))
-                    }
-                    _ => (),
-                }
-                opening = false;
-                Some(())
-            }
-            ("c", lent) => {
-                let arguments: Option<Vec<u64>> =
-                    v.iter().map(|x| u64::try_from(*x).ok()).collect();
-                let call = arguments.and_then(|a| Call::from_numbers(&a));
-                untold = matches!(call, Some(Call::Ids(_) | Call::Columns(_)));
-                let answer = match (call, lent) {
-                    (Some(Call::Ids(call)), Lent::Ids { now, .. }) => player.ids(now, &call),
-                    (Some(Call::Columns(call)), Lent::Columns { d, now, .. }) => {
-                        player.columns(d, now, &call)
-                    }
-                    (Some(Call::Word(call, word)), _) => {
-                        let mut now = word;
-                        let answer = player.word(&mut now, call);
-                        if answer.0 != 0 && now != word {
-                            return wrong(format!("a refused call made {word} into {now}"));
-                        }
-                        answer
-                    }
-                    (Some(Call::FromBits(bits)), _) => player.unpack(bits),
-                    (Some(Call::ToBits(number, generation)), _) => player.pack(number, generation),
-                    _ => return wrong(format!("no such call: {line}")),
-                };
-                owed = Some((answer, 0));
-                calls += 1;
-                Some(())
-            }
-            ("r" | "+", _) => {
-                let Some((answer, told)) = &mut owed else {
-                    return wrong("an answer without a call".to_string());
-                };
-                let said = [&[answer.0 as u64], &answer.1[..]].concat();
-                let part = said.iter().skip(*told).take(v.len()).map(|x| *x as i128);
-                if (*told == 0) != (letter == "r") || !part.eq(v.iter().copied()) {
-                    return wrong(format!("answered {answer:?}, told {line}"));
-                }
-                *told += v.len();
-                Some(())
-            }
-            _ => None,
-        };
-        if fine.is_none() {
-            return wrong(format!("out of place: {line}"));
+        let values = parsed.ok_or_else(|| format!("not numbers: {text}"))?;
+        self.due(letter)?;
+        let line = Line { text, letter, values };
+        match letter {
+            "I" | "C" => self.start(&line),
+            "d" => self.archetype(&line),
+            "c" => self.call(&line),
+            "r" | "+" => self.answer(&line),
+            "." => self.end(),
+            _ => self.table(&line).ok_or_else(|| line.out_of_place()),
         }
     }
-    match owed {
-        Some((answer, told)) if told != answer.1.len() + 1 => {
-            Err("the list ends inside an answer".to_string())
+
+    /// Whether what the lines before left open lets a line of this letter come.
+    fn due(&self, letter: &str) -> Result<(), String> {
+        if let Some((answer, told)) = &self.owed {
+            let goes_on = letter == "+" || letter == "r" && *told == 0;
+            if !goes_on && *told != answer.1.len() + 1 {
+                return Err(format!("the answer ended before {answer:?}"));
+            }
         }
-        _ if untold => Err("the list ends before the tables after the last call".to_string()),
-        _ => Ok(calls),
+        if self.untold && ["I", "C", "c"].contains(&letter) {
+            return Err("the tables after the call before are not told".to_string());
+        }
+        if self.opening && letter == "c" {
+            return Err("the tables before the first call are not told".to_string());
+        }
+        Ok(())
     }
+
+    fn start(&mut self, line: &Line) -> Result<(), String> {
+        let [size] = line.values[..] else {
+            return Err(line.out_of_place());
+        };
+        self.lent = if line.letter == "I" {
+            let told = IdTables::empty(size as usize);
+            Lent::Ids { now: told.clone(), told }
+        } else {
+            let (d, now, told) = Default::default();
+            Lent::Columns { left: size as usize, d, now, told }
+        };
+        self.opening = true;
+        Ok(())
+    }
+
+    fn archetype(&mut self, line: &Line) -> Result<(), String> {
+        let v = &line.values;
+        let Lent::Columns { left, d, now, told } = &mut self.lent else {
+            return Err(line.out_of_place());
+        };
+        if *left == 0 || v.len() % 2 == 0 {
+            return Err(line.out_of_place());
+        }
+        *left -= 1;
+        d.rows.push(v[0] as u32);
+        d.widths.push(v.len() as u32 / 2);
+        d.types.extend(v[1..].iter().step_by(2).map(|x| *x as u32));
+        d.sizes.extend(v[2.min(v.len())..].iter().step_by(2).map(|x| *x as u32));
+        if *left > 0 {
+            return Ok(());
+        }
+        if !d.is_allowed() {
+            return Err("not an allowed declaration".to_string());
+        }
+        *now = ColumnTables::empty(d);
+        *told = now.clone();
+        Ok(())
+    }
+
+    /// Nothing where no table of this letter is lent or the values don't fit it.
+    fn table(&mut self, line: &Line) -> Option<()> {
+        let v = &line.values;
+        match (line.letter, &mut self.lent) {
+            ("h", Lent::Ids { told, .. }) => told.head = head(v)?,
+            ("g", Lent::Ids { told, .. }) => lay(&mut told.generations, v)?,
+            ("a", Lent::Ids { told, .. }) => lay(&mut told.archetypes, v)?,
+            ("x", Lent::Ids { told, .. }) => lay(&mut told.indices, v)?,
+            ("p", Lent::Ids { told, .. }) => lay(&mut told.pending, v)?,
+            ("n", Lent::Columns { told, .. }) => lay(&mut told.row_numbers, v)?,
+            ("k", Lent::Columns { told, .. }) => lay(&mut told.row_counts, v)?,
+            ("b", Lent::Columns { told, .. }) => lay(&mut told.bytes, v)?,
+            _ => return None,
+        }
+        Some(())
+    }
+
+    /// The tables are told: they are set so, or compared.
+    fn end(&mut self) -> Result<(), String> {
+        (self.owed, self.untold) = (None, false);
+        match &mut self.lent {
+            Lent::Ids { now, told } if self.opening => now.clone_from(told),
+            Lent::Columns { now, told, .. } if self.opening => now.clone_from(told),
+            Lent::Ids { now, told } if now != told => {
+                return Err(format!("tables: told {told:?}, are {now:?}"))
+            }
+            Lent::Columns { now, told, .. } if now != told => {
+                return Err(format!("tables: told {told:?}, are {now:?}"))
+            }
+            _ => (),
+        }
+        self.opening = false;
+        Ok(())
+    }
+
+    fn call(&mut self, line: &Line) -> Result<(), String> {
+        let arguments: Option<Vec<u64>> =
+            line.values.iter().map(|x| u64::try_from(*x).ok()).collect();
+        let call = arguments.and_then(|a| Call::from_numbers(&a));
+        self.untold = matches!(call, Some(Call::Ids(_) | Call::Columns(_)));
+        let player = &mut *self.player;
+        let answer = match (call, &mut self.lent) {
+            (Some(Call::Ids(call)), Lent::Ids { now, .. }) => player.ids(now, &call),
+            (Some(Call::Columns(call)), Lent::Columns { d, now, .. }) => {
+                player.columns(d, now, &call)
+            }
+            (Some(Call::Word(call, word)), _) => word_answer(player, call, word)?,
+            (Some(Call::FromBits(bits)), _) => player.unpack(bits),
+            (Some(Call::ToBits(number, generation)), _) => player.pack(number, generation),
+            _ => return Err(format!("no such call: {}", line.text)),
+        };
+        self.owed = Some((answer, 0));
+        self.calls += 1;
+        Ok(())
+    }
+
+    fn answer(&mut self, line: &Line) -> Result<(), String> {
+        let v = &line.values;
+        let Some((answer, told)) = &mut self.owed else {
+            return Err("an answer without a call".to_string());
+        };
+        let said = [&[answer.0 as u64], &answer.1[..]].concat();
+        let part = said.iter().skip(*told).take(v.len()).map(|x| *x as i128);
+        if (*told == 0) != (line.letter == "r") || !part.eq(v.iter().copied()) {
+            return Err(format!("answered {answer:?}, told {}", line.text));
+        }
+        *told += v.len();
+        Ok(())
+    }
+
+    /// How many calls were played, if the list left nothing open.
+    fn finish(self) -> Result<usize, String> {
+        match self.owed {
+            Some((answer, told)) if told != answer.1.len() + 1 => {
+                Err("the list ends inside an answer".to_string())
+            }
+            _ if self.untold => {
+                Err("the list ends before the tables after the last call".to_string())
+            }
+            _ => Ok(self.calls),
+        }
+    }
+}
+
+fn head(v: &[i128]) -> Option<Head> {
+    let [used, pending, cursor, live] = *v else {
+        return None;
+    };
+    Some(Head {
+        used: used as usize,
+        pending: pending as usize,
+        cursor: cursor as i64,
+        live: live as u32,
+    })
+}
+
+/// A refused word call must leave the word as it was.
+fn word_answer(player: &mut impl Player, call: WordCall, word: u64) -> Result<Answer, String> {
+    let mut now = word;
+    let answer = player.word(&mut now, call);
+    if answer.0 != 0 && now != word {
+        return Err(format!("a refused call made {word} into {now}"));
+    }
+    Ok(answer)
 }
