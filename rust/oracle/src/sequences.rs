@@ -525,14 +525,8 @@ fn lay<T: TryFrom<i128> + Copy>(table: &mut [T], v: &[i128]) -> Option<()> {
 /// Plays a list and compares every answer and every table. Answers how many
 /// calls were played, or the first line that is wrong and why.
 pub fn replay(list: &str, player: &mut impl Player) -> Result<usize, String> {
-    let mut reader = Reader {
-        player,
-        lent: Lent::Nothing,
-        calls: 0,
-        owed: None,
-        opening: false,
-        untold: false,
-    };
+    let mut reader =
+        Reader { player, lent: Lent::Nothing, calls: 0, owed: None, opening: false, untold: false };
     for (at, text) in list.lines().enumerate() {
         reader.line(text).map_err(|why| format!("line {}: {why}", at + 1))?;
     }

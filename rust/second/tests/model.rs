@@ -118,6 +118,12 @@ impl Model {
         }
     }
 
+    fn comes_reserved(&mut self, bits: u64) {
+        self.check_new(bits);
+        self.reserved.insert(bits);
+        self.seen.insert(bits);
+    }
+
     fn spawn_refusal(&self, archetype: u32, length: usize) -> Option<u32> {
         let declared = (archetype as usize) < self.sets.len();
         if declared && length != self.width(archetype) {
@@ -301,14 +307,312 @@ impl Model {
     }
 }
 
-/// The call must answer the refusal the model expects, changing nothing, or
-/// be granted.
-fn check<T: std::fmt::Debug>(t: &Tables, before: &Tables, got: &Answer<T>, expected: Option<u32>) -> bool {
-    assert_eq!(got.as_ref().err().copied(), expected, "{got:?}");
-    if expected.is_some() {
-        assert_eq!(t, before, "a refusal changed something");
+/// The tables and the model beside them, for one call.
+struct Step<'a> {
+    tables: &'a mut Tables,
+    before: Tables,
+    model: &'a mut Model,
+    rng: &'a mut Rng,
+    archetype: u32,
+    type_number: u32,
+    bits: u64,
+}
+
+/// The name of a call that was granted.
+type Granted = Option<&'static str>;
+
+impl<'a> Step<'a> {
+    fn new(tables: &'a mut Tables, model: &'a mut Model, rng: &'a mut Rng) -> Step<'a> {
+        let before = tables.clone();
+        let archetypes = model.sets.len() as u64;
+        let undeclared = u64::from(rng.one_in(10));
+        let archetype = rng.below(archetypes + undeclared) as u32;
+        let type_number = if model.sizes.is_empty() || rng.one_in(15) {
+            rng.below(40) as u32
+        } else {
+            let all: Vec<u32> = model.sizes.keys().copied().collect();
+            rng.pick(&all)
+        };
+        let bits = if rng.one_in(3) || model.live.is_empty() {
+            some_handle(tables, rng)
+        } else {
+            let mut all: Vec<u64> = model.live.keys().copied().collect();
+            all.sort();
+            rng.pick(&all)
+        };
+        Step { tables, before, model, rng, archetype, type_number, bits }
     }
-    expected.is_none()
+
+    fn call(&mut self) -> Granted {
+        match self.rng.below(20) {
+            0..=4 => self.spawn(),
+            5 => self.spawn_at(),
+            6 | 7 => self.despawn(),
+            8 | 9 => self.insert(),
+            10 => self.remove(),
+            11 => self.write(),
+            12 => self.read(),
+            13 => self.borrow_or_release(),
+            14 => self.release_all(),
+            15 => self.reserve_one(),
+            16 => self.reserve_many(),
+            17 | 18 => self.flush(),
+            _ => self.clear(),
+        }
+    }
+
+    /// The call must answer the refusal the model expects, changing nothing,
+    /// or be granted.
+    fn check<T: std::fmt::Debug>(&self, got: &Answer<T>, expected: Option<u32>) -> bool {
+        assert_eq!(got.as_ref().err().copied(), expected, "{got:?}");
+        if expected.is_some() {
+            assert_eq!(*self.tables, self.before, "a refusal changed something");
+        }
+        expected.is_none()
+    }
+
+    fn row_bytes(&mut self) -> Vec<u8> {
+        mostly_right(self.rng, row_width(&self.tables.declaration, self.archetype))
+    }
+
+    fn component_bytes(&mut self) -> Vec<u8> {
+        let size = self.model.sizes.get(&self.type_number).copied();
+        mostly_right(self.rng, size.unwrap_or(3))
+    }
+
+    fn spawn(&mut self) -> Granted {
+        let bytes = self.row_bytes();
+        let expected = self.model.spawn_refusal(self.archetype, bytes.len());
+        let got = store::spawn(self.tables, self.archetype, &bytes);
+        if !self.check(&got, expected) {
+            return None;
+        }
+        self.model.check_new(got.unwrap());
+        let components = self.model.split(self.archetype, &bytes);
+        self.model.comes_alive(got.unwrap(), components);
+        Some("spawn")
+    }
+
+    fn spawn_at(&mut self) -> Granted {
+        let bits = self.bits;
+        let bytes = self.row_bytes();
+        let expected = self.model.spawn_at_refusal(bits, self.archetype, bytes.len());
+        let got = store::spawn_at(self.tables, bits, self.archetype, &bytes);
+        if !self.check(&got, expected) {
+            return None;
+        }
+        self.model.live.retain(|h, _| number(*h) != number(bits));
+        let components = self.model.split(self.archetype, &bytes);
+        self.model.comes_alive(bits, components);
+        Some("spawn_at")
+    }
+
+    fn despawn(&mut self) -> Granted {
+        let borrowed = if self.model.borrowed() { Some(8) } else { None };
+        let expected = self.model.live_refusal(self.bits).or(borrowed);
+        let got = store::despawn(self.tables, self.bits);
+        if !self.check(&got, expected) {
+            return None;
+        }
+        self.model.live.remove(&self.bits);
+        Some("despawn")
+    }
+
+    fn insert(&mut self) -> Granted {
+        let type_number = self.type_number;
+        let bytes = self.component_bytes();
+        let expected = self.model.insert_refusal(self.bits, type_number, bytes.len());
+        let got = store::insert(self.tables, self.bits, type_number, &bytes);
+        if !self.check(&got, expected) {
+            return None;
+        }
+        self.components().insert(type_number, bytes);
+        Some("insert")
+    }
+
+    fn remove(&mut self) -> Granted {
+        let type_number = self.type_number;
+        let expected = self.model.remove_refusal(self.bits, type_number);
+        let got = store::remove(self.tables, self.bits, type_number);
+        if !self.check(&got, expected) {
+            return None;
+        }
+        self.components().remove(&type_number);
+        Some("remove")
+    }
+
+    fn write(&mut self) -> Granted {
+        let type_number = self.type_number;
+        let bytes = self.component_bytes();
+        let expected = if self.model.wrong_size(type_number, bytes.len()) {
+            Some(13)
+        } else {
+            match self.model.access(self.bits, type_number) {
+                Err(n) => Some(n),
+                Ok(0) => None,
+                Ok(_) => Some(8),
+            }
+        };
+        let got = store::write(self.tables, self.bits, type_number, &bytes);
+        if !self.check(&got, expected) {
+            return None;
+        }
+        self.components().insert(type_number, bytes);
+        Some("write")
+    }
+
+    fn read(&mut self) -> Granted {
+        let expected = match self.model.access(self.bits, self.type_number) {
+            Err(n) => Some(n),
+            Ok(held) if held < 0 => Some(7),
+            Ok(_) => None,
+        };
+        let got = store::read(self.tables, self.bits, self.type_number);
+        if !self.check(&got, expected) {
+            return None;
+        }
+        let (start, length) = got.unwrap();
+        let expected = &self.model.live[&self.bits][&self.type_number];
+        assert_eq!(self.tables.bytes[start..start + length], *expected);
+        Some("read")
+    }
+
+    /// What the model holds for the handle, which is live.
+    fn components(&mut self) -> &mut Components {
+        self.model.live.get_mut(&self.bits).unwrap()
+    }
+
+    fn borrow_or_release(&mut self) -> Granted {
+        let (archetype, type_number) = (self.archetype, self.type_number);
+        let held = self.model.borrows.get(&(archetype, type_number)).copied().unwrap_or(0);
+        let column = self.model.column_refusal(archetype, type_number);
+        let call = self.rng.below(4);
+        let (own, after) = borrow_rule(call, held);
+        let got = match call {
+            0 => store::borrow(self.tables, archetype, type_number),
+            1 => store::borrow_mut(self.tables, archetype, type_number),
+            2 => store::release(self.tables, archetype, type_number),
+            _ => store::release_mut(self.tables, archetype, type_number),
+        };
+        if !self.check(&got, column.or(own)) {
+            return None;
+        }
+        self.model.borrows.insert((archetype, type_number), after);
+        Some("borrow or release")
+    }
+
+    /// Lets go of everything, so that the rest can go on.
+    fn release_all(&mut self) -> Granted {
+        for (column, held) in std::mem::take(&mut self.model.borrows) {
+            release_column(self.tables, column, held);
+        }
+        None
+    }
+
+    fn room(&self) -> usize {
+        self.model.capacity - self.model.live.len() - self.model.reserved.len()
+    }
+
+    fn reserve_one(&mut self) -> Granted {
+        let expected = if self.room() < 1 { Some(4) } else { None };
+        let got = store::reserve_entity(self.tables);
+        if !self.check(&got, expected) {
+            return None;
+        }
+        self.model.comes_reserved(got.unwrap());
+        Some("reserve one")
+    }
+
+    fn reserve_many(&mut self) -> Granted {
+        let room = self.room();
+        let n = self.rng.below(room as u64 + 2);
+        let length = (n + self.rng.below(3)).saturating_sub(u64::from(self.rng.one_in(5)));
+        let mut out = vec![5; length as usize];
+        let expected = if length < n {
+            Some(13)
+        } else if room < n as usize {
+            Some(4)
+        } else {
+            None
+        };
+        let got = store::reserve_entities(self.tables, n, &mut out);
+        if !self.check(&got, expected) {
+            assert!(out.iter().all(|&x| x == 5));
+            return None;
+        }
+        let (handles, rest) = out.split_at(n as usize);
+        for &bits in handles {
+            self.model.comes_reserved(bits);
+        }
+        assert!(rest.iter().all(|&x| x == 5));
+        Some("reserve many")
+    }
+
+    /// What is reserved needs more rows than archetype 0 has.
+    fn reserved_too_many(&self) -> bool {
+        self.model.count(0) + self.model.reserved.len() > self.model.rows[0]
+    }
+
+    fn flush(&mut self) -> Granted {
+        let expected = if self.model.borrowed() {
+            Some(8)
+        } else if self.reserved_too_many() {
+            Some(4)
+        } else {
+            None
+        };
+        let got = store::flush(self.tables);
+        if !self.check(&got, expected) {
+            return None;
+        }
+        for bits in std::mem::take(&mut self.model.reserved) {
+            self.model.comes_alive(bits, Components::new());
+        }
+        Some("flush")
+    }
+
+    /// Seldom, or where a flush would be refused for good.
+    fn clear(&mut self) -> Granted {
+        if !self.rng.one_in(40) && !self.reserved_too_many() {
+            return None;
+        }
+        let expected = if self.model.borrowed() { Some(8) } else { None };
+        let got = store::clear(self.tables);
+        if !self.check(&got, expected) {
+            return None;
+        }
+        self.model.live.clear();
+        self.model.reserved.clear();
+        self.model.used = 0;
+        Some("clear")
+    }
+}
+
+/// The refusal of borrow, borrow mut, release and release mut on a column with
+/// this borrow held, and the borrow held after a grant.
+fn borrow_rule(call: u64, held: i64) -> (Option<u32>, i64) {
+    match call {
+        0 => (if held < 0 { Some(7) } else { None }, held + 1),
+        1 => (if held != 0 { Some(8) } else { None }, -1),
+        2 => {
+            let own = match held {
+                0 => Some(10),
+                -1 => Some(11),
+                _ => None,
+            };
+            (own, held - 1)
+        }
+        _ => (if held >= 0 { Some(11) } else { None }, 0),
+    }
+}
+
+fn release_column(t: &mut Tables, (archetype, type_number): (u32, u32), held: i64) {
+    if held < 0 {
+        assert_eq!(store::release_mut(t, archetype, type_number), Ok(()));
+    }
+    for _ in 0..held.max(0) {
+        assert_eq!(store::release(t, archetype, type_number), Ok(()));
+    }
 }
 
 /// That many bytes, now and then one more.
@@ -318,215 +622,7 @@ fn mostly_right(rng: &mut Rng, length: usize) -> Vec<u8> {
 }
 
 fn step(t: &mut Tables, m: &mut Model, rng: &mut Rng, granted: &mut BTreeMap<&'static str, usize>) {
-    let before = t.clone();
-    let archetypes = m.sets.len() as u64;
-    let undeclared = u64::from(rng.one_in(10));
-    let archetype = rng.below(archetypes + undeclared) as u32;
-    let type_number = if m.sizes.is_empty() || rng.one_in(15) {
-        rng.below(40) as u32
-    } else {
-        let all: Vec<u32> = m.sizes.keys().copied().collect();
-        rng.pick(&all)
-    };
-    let bits = if rng.one_in(3) || m.live.is_empty() {
-        some_handle(t, rng)
-    } else {
-        let mut all: Vec<u64> = m.live.keys().copied().collect();
-        all.sort();
-        rng.pick(&all)
-    };
-    let mut name = "";
-    let mut grant = |n: &'static str| name = n;
-
-    match rng.below(20) {
-        0..=4 => {
-            let bytes = mostly_right(rng, row_width(&t.declaration, archetype));
-            let expected = m.spawn_refusal(archetype, bytes.len());
-            let got = store::spawn(t, archetype, &bytes);
-            if check(t, &before, &got, expected) {
-                grant("spawn");
-                m.check_new(got.unwrap());
-                let components = m.split(archetype, &bytes);
-                m.comes_alive(got.unwrap(), components);
-            }
-        }
-        5 => {
-            let bytes = mostly_right(rng, row_width(&t.declaration, archetype));
-            let expected = m.spawn_at_refusal(bits, archetype, bytes.len());
-            let got = store::spawn_at(t, bits, archetype, &bytes);
-            if check(t, &before, &got, expected) {
-                grant("spawn_at");
-                m.live.retain(|h, _| number(*h) != number(bits));
-                let components = m.split(archetype, &bytes);
-                m.comes_alive(bits, components);
-            }
-        }
-        6 | 7 => {
-            let borrowed = m.borrowed();
-            let expected = m.live_refusal(bits).or(if borrowed { Some(8) } else { None });
-            let got = store::despawn(t, bits);
-            if check(t, &before, &got, expected) {
-                grant("despawn");
-                m.live.remove(&bits);
-            }
-        }
-        8 | 9 => {
-            let bytes = mostly_right(rng, m.sizes.get(&type_number).copied().unwrap_or(3));
-            let expected = m.insert_refusal(bits, type_number, bytes.len());
-            let got = store::insert(t, bits, type_number, &bytes);
-            if check(t, &before, &got, expected) {
-                grant("insert");
-                m.live.get_mut(&bits).unwrap().insert(type_number, bytes);
-            }
-        }
-        10 => {
-            let expected = m.remove_refusal(bits, type_number);
-            let got = store::remove(t, bits, type_number);
-            if check(t, &before, &got, expected) {
-                grant("remove");
-                m.live.get_mut(&bits).unwrap().remove(&type_number);
-            }
-        }
-        11 => {
-            let bytes = mostly_right(rng, m.sizes.get(&type_number).copied().unwrap_or(3));
-            let expected = if m.wrong_size(type_number, bytes.len()) {
-                Some(13)
-            } else {
-                match m.access(bits, type_number) {
-                    Err(n) => Some(n),
-                    Ok(0) => None,
-                    Ok(_) => Some(8),
-                }
-            };
-            let got = store::write(t, bits, type_number, &bytes);
-            if check(t, &before, &got, expected) {
-                grant("write");
-                m.live.get_mut(&bits).unwrap().insert(type_number, bytes);
-            }
-        }
-        12 => {
-            let expected = match m.access(bits, type_number) {
-                Err(n) => Some(n),
-                Ok(held) if held < 0 => Some(7),
-                Ok(_) => None,
-            };
-            let got = store::read(t, bits, type_number);
-            if check(t, &before, &got, expected) {
-                grant("read");
-                let (start, length) = got.unwrap();
-                assert_eq!(t.bytes[start..start + length], m.live[&bits][&type_number]);
-            }
-        }
-        13 => {
-            let held = m.borrows.get(&(archetype, type_number)).copied().unwrap_or(0);
-            let column = m.column_refusal(archetype, type_number);
-            let (got, own, after) = match rng.below(4) {
-                0 => (
-                    store::borrow(t, archetype, type_number),
-                    if held < 0 { Some(7) } else { None },
-                    held + 1,
-                ),
-                1 => (
-                    store::borrow_mut(t, archetype, type_number),
-                    if held != 0 { Some(8) } else { None },
-                    -1,
-                ),
-                2 => (
-                    store::release(t, archetype, type_number),
-                    match held {
-                        0 => Some(10),
-                        -1 => Some(11),
-                        _ => None,
-                    },
-                    held - 1,
-                ),
-                _ => (
-                    store::release_mut(t, archetype, type_number),
-                    if held >= 0 { Some(11) } else { None },
-                    0,
-                ),
-            };
-            if check(t, &before, &got, column.or(own)) {
-                grant("borrow or release");
-                m.borrows.insert((archetype, type_number), after);
-            }
-        }
-        14 => {
-            // let go of everything, so that the rest can go on
-            for ((archetype, type_number), held) in std::mem::take(&mut m.borrows) {
-                if held < 0 {
-                    assert_eq!(store::release_mut(t, archetype, type_number), Ok(()));
-                }
-                for _ in 0..held.max(0) {
-                    assert_eq!(store::release(t, archetype, type_number), Ok(()));
-                }
-            }
-        }
-        15 => {
-            let room = m.capacity - m.live.len() - m.reserved.len();
-            let expected = if room < 1 { Some(4) } else { None };
-            let got = store::reserve_entity(t);
-            if check(t, &before, &got, expected) {
-                grant("reserve one");
-                m.check_new(got.unwrap());
-                m.reserved.insert(got.unwrap());
-                m.seen.insert(got.unwrap());
-            }
-        }
-        16 => {
-            let room = m.capacity - m.live.len() - m.reserved.len();
-            let n = rng.below(room as u64 + 2);
-            let length = (n + rng.below(3)).saturating_sub(u64::from(rng.one_in(5)));
-            let mut out = vec![5; length as usize];
-            let expected = if length < n {
-                Some(13)
-            } else if room < n as usize {
-                Some(4)
-            } else {
-                None
-            };
-            let got = store::reserve_entities(t, n, &mut out);
-            if check(t, &before, &got, expected) {
-                grant("reserve many");
-                for &bits in &out[..n as usize] {
-                    m.check_new(bits);
-                    m.reserved.insert(bits);
-                    m.seen.insert(bits);
-                }
-                assert!(out[n as usize..].iter().all(|&x| x == 5));
-            } else {
-                assert!(out.iter().all(|&x| x == 5));
-            }
-        }
-        17 | 18 => {
-            let expected = if m.borrowed() {
-                Some(8)
-            } else if m.count(0) + m.reserved.len() > m.rows[0] {
-                Some(4)
-            } else {
-                None
-            };
-            let got = store::flush(t);
-            if check(t, &before, &got, expected) {
-                grant("flush");
-                for bits in std::mem::take(&mut m.reserved) {
-                    m.comes_alive(bits, Components::new());
-                }
-            }
-        }
-        _ => {
-            if rng.one_in(40) || m.reserved.len() + m.count(0) > m.rows[0] {
-                let expected = if m.borrowed() { Some(8) } else { None };
-                let got = store::clear(t);
-                if check(t, &before, &got, expected) {
-                    grant("clear");
-                    m.live.clear();
-                    m.reserved.clear();
-                    m.used = 0;
-                }
-            }
-        }
-    }
+    let name = Step::new(t, m, rng).call().unwrap_or("");
     *granted.entry(name).or_insert(0) += 1;
     m.agrees(t);
 }
