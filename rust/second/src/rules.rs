@@ -104,7 +104,24 @@ impl Layout {
 /// Lays a declaration out, or says which of the sizes and column rules it
 /// breaks (01 Sizes, 01 Columns; R2, R40). Any `Err` here is refusal 12.
 pub fn layout(d: &Declaration) -> Result<Layout, String> {
-    // R2: lengths that disagree with each other are the declaration's fault.
+    lengths_agree(d)?;
+    archetypes_allowed(d)?;
+    let mut out = Layout {
+        archetypes: Vec::new(),
+        row_total: 0,
+        column_total: 0,
+        byte_total: 0,
+    };
+    for a in 0..d.rows.len() {
+        lay_archetype(&mut out, d, a)?;
+    }
+    type_sets_differ(&out)?;
+    types_have_one_size(&out)?;
+    Ok(out)
+}
+
+/// R2: lengths that disagree with each other are the declaration's fault.
+fn lengths_agree(d: &Declaration) -> Result<(), String> {
     if d.widths.len() != d.rows.len() {
         return Err("widths and rows differ in length".into());
     }
@@ -115,7 +132,11 @@ pub fn layout(d: &Declaration) -> Result<Layout, String> {
     if d.sizes.len() as i128 != columns {
         return Err("there are not as many sizes as columns".into());
     }
-    // 01 Sizes: "Archetypes: 1 to 16; archetype 0 has no columns."
+    Ok(())
+}
+
+/// 01 Sizes: "Archetypes: 1 to 16; archetype 0 has no columns."
+fn archetypes_allowed(d: &Declaration) -> Result<(), String> {
     if d.rows.is_empty() {
         return Err("no archetype is declared".into());
     }
@@ -125,66 +146,80 @@ pub fn layout(d: &Declaration) -> Result<Layout, String> {
     if d.widths[0] != 0 {
         return Err("archetype 0 has columns".into());
     }
+    Ok(())
+}
 
-    let mut out = Layout {
-        archetypes: Vec::new(),
-        row_total: 0,
-        column_total: 0,
-        byte_total: 0,
-    };
-    for a in 0..d.rows.len() {
-        // 01 Sizes: "Columns per archetype: 0 to 16", "Rows per archetype: 0
-        // to 4,096", "Component size: 0 to 64 bytes".
-        if d.widths[a] > MOST_COLUMNS {
-            return Err(format!("archetype {a} has more than 16 columns"));
-        }
-        if d.rows[a] > MOST_ROWS {
-            return Err(format!("archetype {a} has more than 4,096 rows"));
-        }
-        let rows = d.rows[a] as usize;
-        let mut archetype = Archetype {
-            rows,
-            first: out.row_total,
-            columns: Vec::new(),
-        };
-        out.row_total += rows;
-        for _ in 0..d.widths[a] {
-            let word = out.column_total;
-            let size = d.sizes[word];
-            if size > MOST_SIZE {
-                return Err(format!("column {word} has a size above 64"));
-            }
-            archetype.columns.push(Column {
-                type_number: d.types[word],
-                size: size as usize,
-                word,
-                start: out.byte_total,
-            });
-            out.column_total += 1;
-            out.byte_total += rows * size as usize;
-        }
-        // 01 Columns: "columns stand in ascending type number".
-        for pair in archetype.columns.windows(2) {
-            if pair[0].type_number >= pair[1].type_number {
-                return Err(format!("the types of archetype {a} do not ascend"));
-            }
-        }
-        out.archetypes.push(archetype);
+/// Lays archetype `a` out behind those before it. 01 Sizes: "Columns per
+/// archetype: 0 to 16", "Rows per archetype: 0 to 4,096".
+fn lay_archetype(out: &mut Layout, d: &Declaration, a: usize) -> Result<(), String> {
+    if d.widths[a] > MOST_COLUMNS {
+        return Err(format!("archetype {a} has more than 16 columns"));
     }
-    // 01 Columns: "Two archetypes never have the same type set".
-    let sets: BTreeSet<BTreeSet<u32>> = out.archetypes.iter().map(|a| a.type_set()).collect();
-    if sets.len() != out.archetypes.len() {
+    if d.rows[a] > MOST_ROWS {
+        return Err(format!("archetype {a} has more than 4,096 rows"));
+    }
+    let rows = d.rows[a] as usize;
+    let mut columns = Vec::new();
+    for _ in 0..d.widths[a] {
+        columns.push(lay_column(out, d, rows)?);
+    }
+    if !types_ascend(&columns) {
+        return Err(format!("the types of archetype {a} do not ascend"));
+    }
+    out.archetypes.push(Archetype {
+        rows,
+        first: out.row_total,
+        columns,
+    });
+    out.row_total += rows;
+    Ok(())
+}
+
+/// Lays the next column out, of an archetype with that many rows. 01 Sizes:
+/// "Component size: 0 to 64 bytes".
+fn lay_column(out: &mut Layout, d: &Declaration, rows: usize) -> Result<Column, String> {
+    let word = out.column_total;
+    if d.sizes[word] > MOST_SIZE {
+        return Err(format!("column {word} has a size above 64"));
+    }
+    let size = d.sizes[word] as usize;
+    let column = Column {
+        type_number: d.types[word],
+        size,
+        word,
+        start: out.byte_total,
+    };
+    out.column_total += 1;
+    out.byte_total += rows * size;
+    Ok(column)
+}
+
+/// 01 Columns: "columns stand in ascending type number".
+fn types_ascend(columns: &[Column]) -> bool {
+    columns
+        .windows(2)
+        .all(|pair| pair[0].type_number < pair[1].type_number)
+}
+
+/// 01 Columns: "Two archetypes never have the same type set".
+fn type_sets_differ(l: &Layout) -> Result<(), String> {
+    let sets: BTreeSet<BTreeSet<u32>> = l.archetypes.iter().map(|a| a.type_set()).collect();
+    if sets.len() != l.archetypes.len() {
         return Err("two archetypes have the same type set".into());
     }
-    // 01 Columns: "a type has one size everywhere".
+    Ok(())
+}
+
+/// 01 Columns: "a type has one size everywhere".
+fn types_have_one_size(l: &Layout) -> Result<(), String> {
     let mut size_of: BTreeMap<u32, usize> = BTreeMap::new();
-    for column in out.archetypes.iter().flat_map(|a| &a.columns) {
+    for column in l.archetypes.iter().flat_map(|a| &a.columns) {
         let known = *size_of.entry(column.type_number).or_insert(column.size);
         if known != column.size {
             return Err(format!("type {} has two sizes", column.type_number));
         }
     }
-    Ok(out)
+    Ok(())
 }
 
 // --------------------------------------------------------------- lengths --
