@@ -154,105 +154,129 @@ pub fn some_handle(rng: &mut Rng, t: &IdTables) -> u64 {
 
 /// An id call. It may lie outside what is compared.
 pub fn id_call(rng: &mut Rng, t: &IdTables) -> IdCall {
-    let Head { used, pending, cursor, .. } = t.head;
-    let room = (t.capacity() as i64 - used as i64 + cursor) as u64;
-    let count = |rng: &mut Rng| {
-        let n = match rng.below(8) {
-            0 => 0,
-            1 => room,
-            2 => pending as u64 + 1,
-            _ => rng.below(6),
-        };
-        n.min(room) as u32
-    };
     // not flushed: mostly lookups, reservations and the flush
-    let flushed = cursor == pending as i64;
+    let flushed = t.head.cursor == t.head.pending as i64;
     let kinds = if flushed || rng.percent(15) { 100 } else { 55 };
     match rng.below(kinds) {
         0..=7 => IdCall::Contains(some_handle(rng, t)),
         8..=15 => IdCall::Get(some_handle(rng, t)),
         16..=19 => IdCall::SetPlace(some_handle(rng, t), some_place(rng)),
-        20..=25 => {
-            let n = match rng.below(6) {
-                0 => rng.number() as u32,
-                1 => t.capacity() as u32,
-                _ => some_handle(rng, t) as u32,
-            };
-            IdCall::Resolve(n)
-        }
+        20..=25 => IdCall::Resolve(some_number(rng, t)),
         26..=27 => IdCall::Len,
         28..=29 => IdCall::Freelist,
         30..=37 => IdCall::ReserveEntity,
-        38..=42 => IdCall::ReserveEntities(count(rng)),
+        38..=42 => IdCall::ReserveEntities(some_count(rng, t)),
         43 if rng.percent(25) => IdCall::Clear,
-        43..=54 if flushed && rng.percent(90) => IdCall::ReserveEntities(count(rng)),
+        43..=54 if flushed && rng.percent(90) => IdCall::ReserveEntities(some_count(rng, t)),
         43..=54 => IdCall::Flush(some_place(rng)),
         55..=69 => IdCall::Alloc(some_place(rng)),
-        70..=76 => IdCall::AllocMany(count(rng), some_place(rng)),
-        77..=82 => {
-            let number = if rng.percent(50) {
-                some_handle(rng, t) as u32
-            } else {
-                used as u32 + rng.below(5) as u32
-            };
-            IdCall::AllocAt(
-                bits(number, if rng.percent(95) { generation(rng) } else { 0 }),
-                some_place(rng),
-            )
-        }
+        70..=76 => IdCall::AllocMany(some_count(rng, t), some_place(rng)),
+        77..=82 => IdCall::AllocAt(chosen_handle(rng, t), some_place(rng)),
         _ => IdCall::Free(some_handle(rng, t)),
     }
 }
 
+/// How many numbers to hand out: no more than there is room for.
+fn some_count(rng: &mut Rng, t: &IdTables) -> u32 {
+    let Head { used, pending, cursor, .. } = t.head;
+    let room = (t.capacity() as i64 - used as i64 + cursor) as u64;
+    let count = match rng.below(8) {
+        0 => 0,
+        1 => room,
+        2 => pending as u64 + 1,
+        _ => rng.below(6),
+    };
+    count.min(room) as u32
+}
+
+/// A number to ask the handle of.
+fn some_number(rng: &mut Rng, t: &IdTables) -> u32 {
+    match rng.below(6) {
+        0 => rng.number() as u32,
+        1 => t.capacity() as u32,
+        _ => some_handle(rng, t) as u32,
+    }
+}
+
+/// A handle to bring alive: its number used, or one of the next.
+fn chosen_handle(rng: &mut Rng, t: &IdTables) -> u64 {
+    let number = if rng.percent(50) {
+        some_handle(rng, t) as u32
+    } else {
+        t.head.used as u32 + rng.below(5) as u32
+    };
+    bits(number, if rng.percent(95) { generation(rng) } else { 0 })
+}
+
 // ---- Random columns ----
+
+/// Types with their sizes, ascending.
+type Types = Vec<(u32, u32)>;
 
 /// An allowed declaration, of about `most` bytes at the most.
 pub fn declaration(rng: &mut Rng, most: usize) -> Declaration {
-    let mut types: Vec<(u32, u32)> = Vec::new();
+    let types = some_types(rng);
+    let sets = some_sets(rng, &types);
+    let mut left = most;
+    let archetypes: Vec<(u32, &[(u32, u32)])> =
+        sets.iter().map(|set| (some_rows(rng, set, &mut left), &set[..])).collect();
+    Declaration::of(&archetypes)
+}
+
+fn some_types(rng: &mut Rng) -> Types {
+    let mut types = Types::new();
     for _ in 0..rng.pick(&[1, 3, 20]) {
-        let ty = if rng.percent(60) {
-            rng.below(40) as u32
-        } else {
-            rng.pick(&[MAX, 0, 1 << 31, rng.0 as u32])
-        };
-        let size = match rng.below(6) {
-            0 => 0,
-            1 => 64,
-            2 => rng.below(65) as u32,
-            _ => rng.pick(&[1, 2, 4, 8]),
-        };
+        let (ty, size) = some_type(rng);
         if types.iter().all(|t| t.0 != ty) {
             types.push((ty, size));
         }
     }
     types.sort();
-    let mut sets: Vec<Vec<(u32, u32)>> = vec![Vec::new()];
+    types
+}
+
+fn some_type(rng: &mut Rng) -> (u32, u32) {
+    let ty = if rng.percent(60) {
+        rng.below(40) as u32
+    } else {
+        rng.pick(&[MAX, 0, 1 << 31, rng.0 as u32])
+    };
+    let size = match rng.below(6) {
+        0 => 0,
+        1 => 64,
+        2 => rng.below(65) as u32,
+        _ => rng.pick(&[1, 2, 4, 8]),
+    };
+    (ty, size)
+}
+
+/// Different sets of at most 16 of these types, the empty one first.
+fn some_sets(rng: &mut Rng, types: &[(u32, u32)]) -> Vec<Types> {
+    let mut sets = vec![Types::new()];
     for _ in 0..rng.pick(&[0, 1, 3, 15]) {
         let part = rng.pick(&[30, 60, 100]);
-        let mut set = types.clone();
+        let mut set = types.to_vec();
         set.retain(|_| rng.percent(part));
         set.truncate(16);
         if !sets.contains(&set) {
             sets.push(set);
         }
     }
-    let mut left = most;
-    let archetypes: Vec<(u32, &[(u32, u32)])> = sets
-        .iter()
-        .map(|set| {
-            let width = set.iter().map(|c| c.1 as usize).sum::<usize>() + 4;
-            let rows = match rng.below(8) {
-                0 => 0,
-                1 => 1,
-                2 => 4096,
-                _ => rng.below(12) as usize,
-            };
-            let rows = rows.min(left / width);
-            left -= rows * width;
-            (rows as u32, &set[..])
-        })
-        .collect();
-    Declaration::of(&archetypes)
+    sets
+}
+
+/// How many rows an archetype of these columns has, out of the bytes left.
+fn some_rows(rng: &mut Rng, set: &[(u32, u32)], left: &mut usize) -> u32 {
+    let width = set.iter().map(|c| c.1 as usize).sum::<usize>() + 4;
+    let rows = match rng.below(8) {
+        0 => 0,
+        1 => 1,
+        2 => 4096,
+        _ => rng.below(12) as usize,
+    };
+    let rows = rows.min(*left / width);
+    *left -= rows * width;
+    rows as u32
 }
 
 /// Tables for it, rows past the counts filled too.
