@@ -107,7 +107,20 @@ struct Outputs {
     reader: ReserveReader,
 }
 
-fn call(t: &mut Tables, o: &mut Outputs, rng: &mut Rng) -> (&'static str, Answer<()>) {
+struct Arguments {
+    bits: u64,
+    number: u32,
+    archetype: u32,
+    row: u32,
+    type_number: u32,
+    n: u64,
+    place: Place,
+    row_run: Vec<u8>,
+    component: Vec<u8>,
+}
+
+/// Arguments that fit these tables or nearly so, and an output as long as a row.
+fn some_arguments(t: &Tables, o: &mut Outputs, rng: &mut Rng) -> Arguments {
     let bits = some_handle(t, rng);
     let number = if rng.one_in(8) { odd(rng) } else { rng.below(10) as u32 };
     let archetype = rng.below(t.declaration.rows.len() as u64 + 1) as u32;
@@ -119,20 +132,50 @@ fn call(t: &mut Tables, o: &mut Outputs, rng: &mut Rng) -> (&'static str, Answer
     };
     let n = if rng.one_in(10) { odd_long(rng) } else { rng.below(6) };
     let place = at(archetype, if rng.one_in(5) { odd(rng) } else { row });
-    let declared = t.declaration.widths.iter().map(|&w| u64::from(w)).sum::<u64>()
-        == t.declaration.sizes.len() as u64
-        && t.declaration.rows.len() == t.declaration.widths.len()
-        && t.declaration.types.len() == t.declaration.sizes.len();
-    let mut width = if declared { row_width(&t.declaration, archetype) } else { 3 };
-    let mut size = if declared { size_of(&t.declaration, type_number).unwrap_or(0) } else { 3 };
-    width = width.min(100) + usize::from(rng.one_in(20));
-    size = size.min(100) + usize::from(rng.one_in(20));
+    let (width, size) = widths(&t.declaration, archetype, type_number);
+    let width = width.min(100) + usize::from(rng.one_in(20));
+    let size = size.min(100) + usize::from(rng.one_in(20));
     let row_run = rng.bytes(width);
     let component = rng.bytes(size);
     o.bytes = rng.bytes(width);
-    let o0 = o.clone();
+    Arguments { bits, number, archetype, row, type_number, n, place, row_run, component }
+}
 
+/// The bytes of a row and of a component, 3 where the declaration's lengths
+/// disagree.
+fn widths(d: &Declaration, archetype: u32, type_number: u32) -> (usize, usize) {
+    let columns = d.widths.iter().map(|&w| u64::from(w)).sum::<u64>();
+    let declared = columns == d.sizes.len() as u64
+        && d.rows.len() == d.widths.len()
+        && d.types.len() == d.sizes.len();
+    if declared {
+        (row_width(d, archetype), size_of(d, type_number).unwrap_or(0))
+    } else {
+        (3, 3)
+    }
+}
+
+type Called = (&'static str, Answer<()>);
+
+fn call(t: &mut Tables, o: &mut Outputs, rng: &mut Rng) -> Called {
+    let arguments = some_arguments(t, o, rng);
+    let outputs_before = o.clone();
     let (name, answer) = match rng.below(48) {
+        // a clear leaves little to damage: mostly the length instead
+        13 | 43 if !rng.one_in(5) => ("len", store::len(t).map(|_| ())),
+        which @ 0..=16 => call_of_ids(which, t, o, &arguments),
+        which @ 17..=23 => call_of_columns(which, t, o, &arguments),
+        which => call_of_store(which, t, o, &arguments),
+    };
+    if answer.is_err() {
+        assert_eq!(*o, outputs_before, "{name}: a refusal changed an output");
+    }
+    (name, answer)
+}
+
+fn call_of_ids(which: u64, t: &mut Tables, o: &mut Outputs, arguments: &Arguments) -> Called {
+    let &Arguments { bits, number, archetype, n, place, .. } = arguments;
+    match which {
         0 => ("ids reserve one", ids::reserve_entity(t).map(|_| ())),
         1 => ("ids reserve many", ids::reserve_entities(t, n, &mut o.handles)),
         2 => ("ids alloc", ids::alloc(t, place).map(|_| ())),
@@ -149,33 +192,46 @@ fn call(t: &mut Tables, o: &mut Outputs, rng: &mut Rng) -> (&'static str, Answer
         10 => ("ids flush", ids::flush(t, archetype, place.index)),
         11 => ("ids len", ids::len(t).map(|_| ())),
         12 => ("ids freelist", ids::freelist(t, &mut o.handles).map(|_| ())),
-        13 if rng.one_in(5) => ("ids clear", ids::clear(t)),
+        13 => ("ids clear", ids::clear(t)),
         14 => ("walk", ids::alloc_many_next(&mut o.state, &t.pending).map(|_| ())),
         15 => ("reader", ids::reserve_reader(t, n).map(|r| o.reader = r)),
-        16 => (
+        _ => (
             "reader step",
             ids::reserve_reader_step(&mut o.reader, &t.generations).map(|_| ()),
         ),
+    }
+}
+
+fn call_of_columns(which: u64, t: &mut Tables, o: &mut Outputs, arguments: &Arguments) -> Called {
+    let &Arguments { number, archetype, row, type_number, ref component, .. } = arguments;
+    match which {
         17 => ("lookup", columns::lookup(&t.declaration, archetype, type_number).map(|_| ())),
         18 => ("allocate", columns::allocate(t, archetype, number).map(|_| ())),
         19 => ("columns remove", columns::remove(t, archetype, row).map(|_| ())),
         20 => ("move out", columns::move_out(t, archetype, row, &mut o.bytes).map(|_| ())),
-        21 => ("put", columns::put(t, archetype, row, type_number, &component)),
+        21 => ("put", columns::put(t, archetype, row, type_number, component)),
         22 => {
             let got = columns::get(t, archetype, row, type_number);
             let part = columns::get_part(t, archetype, row, type_number);
             assert_eq!(part.len(), got.map_or(0, |(_, length)| length));
             ("columns get", got.map(|_| ()))
         }
-        23 => {
+        _ => {
             let got = columns::ids(t, archetype);
             assert_eq!(columns::ids_part(t, archetype).len(), got.map_or(0, |(_, count)| count));
             ("columns ids", got.map(|_| ()))
         }
-        24 | 25 => ("spawn", store::spawn(t, archetype, &row_run).map(|_| ())),
-        26 | 27 => ("spawn at", store::spawn_at(t, bits, archetype, &row_run)),
+    }
+}
+
+fn call_of_store(which: u64, t: &mut Tables, o: &mut Outputs, arguments: &Arguments) -> Called {
+    let &Arguments { bits, number, archetype, type_number, n, .. } = arguments;
+    let Arguments { row_run, component, .. } = arguments;
+    match which {
+        24 | 25 => ("spawn", store::spawn(t, archetype, row_run).map(|_| ())),
+        26 | 27 => ("spawn at", store::spawn_at(t, bits, archetype, row_run)),
         28 | 29 => ("despawn", store::despawn(t, bits)),
-        30 | 31 => ("insert", store::insert(t, bits, type_number, &component)),
+        30 | 31 => ("insert", store::insert(t, bits, type_number, component)),
         32 | 33 => ("remove", store::remove(t, bits, type_number)),
         34 => {
             let got = store::read(t, bits, type_number);
@@ -183,7 +239,7 @@ fn call(t: &mut Tables, o: &mut Outputs, rng: &mut Rng) -> (&'static str, Answer
             assert_eq!(part.len(), got.map_or(0, |(_, length)| length));
             ("read", got.map(|_| ()))
         }
-        35 => ("write", store::write(t, bits, type_number, &component)),
+        35 => ("write", store::write(t, bits, type_number, component)),
         36 => ("borrow", store::borrow(t, archetype, type_number)),
         37 => ("borrow mut", store::borrow_mut(t, archetype, type_number)),
         38 => ("release", store::release(t, archetype, type_number)),
@@ -191,17 +247,12 @@ fn call(t: &mut Tables, o: &mut Outputs, rng: &mut Rng) -> (&'static str, Answer
         40 => ("reserve one", store::reserve_entity(t).map(|_| ())),
         41 => ("reserve many", store::reserve_entities(t, n, &mut o.handles)),
         42 => ("flush", store::flush(t)),
-        43 if rng.one_in(5) => ("clear", store::clear(t)),
+        43 => ("clear", store::clear(t)),
         44 => ("contains", store::contains(t, bits).map(|_| ())),
         45 => ("get", store::get(t, bits).map(|_| ())),
         46 => ("resolve", store::resolve(t, number).map(|_| ())),
-        47 => ("freelist", store::freelist(t, &mut o.handles).map(|_| ())),
-        _ => ("len", store::len(t).map(|_| ())),
-    };
-    if answer.is_err() {
-        assert_eq!(*o, o0, "{name}: a refusal changed an output");
+        _ => ("freelist", store::freelist(t, &mut o.handles).map(|_| ())),
     }
-    (name, answer)
 }
 
 fn lengths(t: &Tables) -> [usize; 8] {
@@ -217,83 +268,118 @@ fn lengths(t: &Tables) -> [usize; 8] {
     ]
 }
 
-#[test]
-fn every_call_answers_on_any_tables() {
-    let mut rng = Rng(5);
-    let mut seen: BTreeMap<(&str, u32), usize> = BTreeMap::new();
-    for _ in 0..12_000 {
-        let declaration = if rng.one_in(2) {
-            standard()
-        } else {
-            random_declaration(&mut rng, 4)
-        };
-        let capacity = rng.pick(&[0, 2, 8, 8, 8, 10]);
-        let mut t = fresh(declaration, capacity);
-        let steps = rng.below(30) as usize;
-        evolve(&mut t, &mut rng, steps);
-        if rng.one_in(2) {
-            let _ = store::flush(&mut t);
-        }
-        let mut o = Outputs {
-            handles: vec![1; rng.below(10) as usize],
-            bytes: vec![],
-            state: AllocManyState {
-                position: odd_long(&mut rng),
-                end: odd_long(&mut rng),
-                next: rng.below(9) as u32,
-                new_end: rng.below(9) as u32,
-            },
-            reader: ReserveReader {
-                start: 0,
-                part: vec![odd(&mut rng), 2],
-                position: rng.below(4) as usize,
-                next: rng.below(9) as u32,
-                new_end: rng.below(9) as u32,
-            },
-        };
-        for _ in 0..rng.below(20) {
-            if rng.one_in(4) {
-                damage(&mut t, &mut rng);
-            }
-            let before = t.clone();
-            let (name, answer) = call(&mut t, &mut o, &mut rng);
-            *seen.entry((name, answer.err().unwrap_or(0))).or_insert(0) += 1;
-            match answer {
-                Err(_) => assert_eq!(t, before, "{name}: a refusal changed something"),
-                Ok(()) => {
-                    assert_eq!(lengths(&t), lengths(&before), "{name}");
-                    assert_eq!(t.declaration, before.declaration, "{name}");
-                    if ids::len(&before).is_ok() {
-                        assert!(ids::len(&t).is_ok(), "{name} broke the head rule");
-                    }
-                }
-            }
-            if name == "len" && answer.is_ok() {
-                assert!(store::len(&t).is_ok());
+/// Tables that calls have led to, reservations flushed or not.
+fn some_tables(rng: &mut Rng) -> Tables {
+    let declaration = if rng.one_in(2) {
+        standard()
+    } else {
+        random_declaration(rng, 4)
+    };
+    let capacity = rng.pick(&[0, 2, 8, 8, 8, 10]);
+    let mut t = fresh(declaration, capacity);
+    let steps = rng.below(30) as usize;
+    evolve(&mut t, rng, steps);
+    if rng.one_in(2) {
+        let _ = store::flush(&mut t);
+    }
+    t
+}
+
+fn some_outputs(rng: &mut Rng) -> Outputs {
+    Outputs {
+        handles: vec![1; rng.below(10) as usize],
+        bytes: vec![],
+        state: AllocManyState {
+            position: odd_long(rng),
+            end: odd_long(rng),
+            next: rng.below(9) as u32,
+            new_end: rng.below(9) as u32,
+        },
+        reader: ReserveReader {
+            start: 0,
+            part: vec![odd(rng), 2],
+            position: rng.below(4) as usize,
+            next: rng.below(9) as u32,
+            new_end: rng.below(9) as u32,
+        },
+    }
+}
+
+/// One call, after damage now and then. Answers its name and what it answered,
+/// 0 for a grant.
+fn checked_call(t: &mut Tables, o: &mut Outputs, rng: &mut Rng) -> (&'static str, u32) {
+    if rng.one_in(4) {
+        damage(t, rng);
+    }
+    let before = t.clone();
+    let (name, answer) = call(t, o, rng);
+    match answer {
+        Err(_) => assert_eq!(*t, before, "{name}: a refusal changed something"),
+        Ok(()) => {
+            assert_eq!(lengths(t), lengths(&before), "{name}");
+            assert_eq!(t.declaration, before.declaration, "{name}");
+            if ids::len(&before).is_ok() {
+                assert!(ids::len(t).is_ok(), "{name} broke the head rule");
             }
         }
     }
-    // Each answer of each store call was met.
-    let met = |name: &'static str, numbers: &[u32]| {
-        for &number in numbers {
-            assert!(seen.contains_key(&(name, number)), "{name} never answered {number}");
-        }
-    };
-    met("spawn", &[0, 1, 3, 4, 6, 8, 12, 13]);
-    met("spawn at", &[0, 1, 3, 4, 5, 6, 8, 12, 13]);
-    met("despawn", &[0, 1, 2, 3, 5, 8, 12, 13]);
-    met("insert", &[0, 1, 2, 3, 4, 5, 8, 12, 13, 14]);
-    met("remove", &[0, 1, 2, 3, 4, 5, 8, 12, 13, 14, 15]);
-    met("read", &[0, 1, 2, 5, 7, 12, 13, 15]);
-    met("write", &[0, 1, 2, 5, 8, 12, 13, 15]);
-    met("borrow", &[0, 1, 6, 7, 9, 12, 13, 15]);
-    met("release", &[0, 1, 6, 10, 11, 12, 13, 15]);
-    met("flush", &[0, 1, 4, 8, 12, 13]);
-    met("ids alloc", &[0, 1, 3, 4, 6, 13]);
-    met("ids alloc many", &[0, 1, 3, 4, 6, 13]);
-    met("ids alloc at", &[0, 1, 3, 4, 5, 6, 13]);
-    met("ids free", &[0, 1, 2, 3, 5, 13]);
-    met("walk", &[0, 13]);
+    if name == "len" && answer.is_ok() {
+        assert!(store::len(t).is_ok());
+    }
+    (name, answer.err().unwrap_or(0))
+}
+
+/// How often each call gave each answer.
+type Seen = BTreeMap<(&'static str, u32), usize>;
+
+fn calls_on_some_tables(rng: &mut Rng, seen: &mut Seen) {
+    let mut t = some_tables(rng);
+    let mut o = some_outputs(rng);
+    for _ in 0..rng.below(20) {
+        let answered = checked_call(&mut t, &mut o, rng);
+        *seen.entry(answered).or_insert(0) += 1;
+    }
+}
+
+/// The answers of each store call, 0 for a grant.
+const ANSWERS: [(&str, &[u32]); 15] = [
+    ("spawn", &[0, 1, 3, 4, 6, 8, 12, 13]),
+    ("spawn at", &[0, 1, 3, 4, 5, 6, 8, 12, 13]),
+    ("despawn", &[0, 1, 2, 3, 5, 8, 12, 13]),
+    ("insert", &[0, 1, 2, 3, 4, 5, 8, 12, 13, 14]),
+    ("remove", &[0, 1, 2, 3, 4, 5, 8, 12, 13, 14, 15]),
+    ("read", &[0, 1, 2, 5, 7, 12, 13, 15]),
+    ("write", &[0, 1, 2, 5, 8, 12, 13, 15]),
+    ("borrow", &[0, 1, 6, 7, 9, 12, 13, 15]),
+    ("release", &[0, 1, 6, 10, 11, 12, 13, 15]),
+    ("flush", &[0, 1, 4, 8, 12, 13]),
+    ("ids alloc", &[0, 1, 3, 4, 6, 13]),
+    ("ids alloc many", &[0, 1, 3, 4, 6, 13]),
+    ("ids alloc at", &[0, 1, 3, 4, 5, 6, 13]),
+    ("ids free", &[0, 1, 2, 3, 5, 13]),
+    ("walk", &[0, 13]),
+];
+
+fn each_was_met(seen: &Seen, name: &'static str, numbers: &[u32]) {
+    for &number in numbers {
+        assert!(seen.contains_key(&(name, number)), "{name} never answered {number}");
+    }
+}
+
+fn seen_on_any_tables(rng: &mut Rng) -> Seen {
+    let mut seen = Seen::new();
+    for _ in 0..12_000 {
+        calls_on_some_tables(rng, &mut seen);
+    }
+    seen
+}
+
+#[test]
+fn every_call_answers_on_any_tables() {
+    let seen = seen_on_any_tables(&mut Rng(5));
+    for (name, numbers) in ANSWERS {
+        each_was_met(&seen, name, numbers);
+    }
 }
 
 /// Each sentence of Sound can be broken, and is then named.
