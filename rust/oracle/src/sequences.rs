@@ -640,7 +640,8 @@ impl<P: Player> Reader<'_, P> {
         let Lent::Columns { left, d, now, told } = &mut self.lent else {
             return Err(line.out_of_place());
         };
-        if *left == 0 || v.len() % 2 == 0 {
+        let rows_and_pairs = v.len() % 2 == 1;
+        if *left == 0 || !rows_and_pairs {
             return Err(line.out_of_place());
         }
         *left -= 1;

@@ -382,10 +382,13 @@ fn every_call_answers_on_any_tables() {
     }
 }
 
+/// Breaks a sentence of Sound, and words of its name.
+type Way = (fn(&mut Tables), &'static str);
+
 /// Each sentence of Sound can be broken, and is then named.
 #[test]
 fn sound_names_what_is_broken() {
-    let ways: &[(fn(&mut Tables), &str)] = &[
+    let ways: &[Way] = &[
         (|t| t.pending[0] = 6, "not below used"),
         (|t| t.archetypes[4] = 5, "has a place"),
         (|t| t.indices[4] = 0, "has a place"),

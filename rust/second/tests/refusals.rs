@@ -910,9 +910,13 @@ fn store_read_write() {
     assert_eq!(store::read_part(&t, v(3, 1), 30), []);
 }
 
+/// A call, the words it refuses with the refusals, and a granted word before
+/// and after it.
+type BorrowCase = (Call, &'static [(u64, u32)], u64, u64);
+
 #[test]
 fn store_borrow_and_release() {
-    let cases: &[(Call, &[(u64, u32)], u64, u64)] = &[
+    let cases: &[BorrowCase] = &[
         (
             |t, a| store::borrow(t, a.archetype, a.type_number),
             &[(u64::MAX, 9), (u64::MAX >> 1, 9), (1 << 63, 7)],
