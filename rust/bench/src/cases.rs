@@ -71,9 +71,7 @@ pub fn one_archetype(columns: u32, size: u32, rows: u32, used: usize) -> Start {
 fn with_rows(d: &Declaration, archetype: usize, used: usize) -> ColumnTables {
     let mut t = ColumnTables::empty(d);
     let first = d.first_row(archetype);
-    for i in 0..used {
-        t.row_numbers[first + i] = i as u32;
-    }
+    (0..used).for_each(|i| t.row_numbers[first + i] = i as u32);
     t.row_counts[archetype] = used as u32;
     for (i, byte) in t.bytes.iter_mut().enumerate() {
         *byte = (i * 7 % 251) as u8;
@@ -114,7 +112,12 @@ macro_rules! boxed {
     ($($case:expr;)*) => { vec![$(Box::new($case) as Box<dyn Pair>),*] };
 }
 
+/// The id layer's calls.
 pub fn ids() -> Vec<Box<dyn Pair>> {
+    [reserving(), allocating(), holding(), over_all_numbers()].into_iter().flatten().collect()
+}
+
+fn reserving() -> Vec<Box<dyn Pair>> {
     let c = CAPACITY;
     boxed! {
         case("reserve_entity, a free number", ids_alone(freed(c, N, 0)), N,
@@ -125,6 +128,12 @@ pub fn ids() -> Vec<Box<dyn Pair>> {
             |o, _| o.reserve_entities(N) + o.flush(0, 0), reserve_and_flush);
         case("reserve_entities of 500 free and 500 new, flush", ids_alone(freed(c, N / 2, 0)), 1,
             |o, _| o.reserve_entities(N) + o.flush(0, 0), reserve_and_flush);
+    }
+}
+
+fn allocating() -> Vec<Box<dyn Pair>> {
+    let c = CAPACITY;
+    boxed! {
         case("alloc, a free number", ids_alone(freed(c, N, 0)), N,
             |o, i| o.alloc(place(1, i as u32)), |t, i| t.store.ids.alloc(place(1, i as u32)));
         case("alloc, a new number", ids_alone(empty(c)), N,
@@ -140,6 +149,13 @@ pub fn ids() -> Vec<Box<dyn Pair>> {
         case("alloc_at, a live number", ids_alone(live(c, N)), N,
             |o, i| o.alloc_at(bits(i as u32, 9), place(1, i as u32)),
             |t, i| t.store.ids.alloc_at(bits(i as u32, 9), place(1, i as u32)));
+    }
+}
+
+/// Calls on a handle or a number that there is.
+fn holding() -> Vec<Box<dyn Pair>> {
+    let c = CAPACITY;
+    boxed! {
         case("free", ids_alone(live(c, N)), N,
             |o, i| o.free(bits(i as u32, 1)), |t, i| t.store.ids.free(bits(i as u32, 1)));
         case("contains, a live number", ids_alone(live(c, N)), N,
@@ -157,6 +173,12 @@ pub fn ids() -> Vec<Box<dyn Pair>> {
         case("resolve_unknown_gen", ids_alone(live(c, N)), N,
             |o, i| o.resolve_unknown_gen(i as u32),
             |t, i| t.store.ids.resolve_unknown_gen(i as u32));
+    }
+}
+
+fn over_all_numbers() -> Vec<Box<dyn Pair>> {
+    let c = CAPACITY;
+    boxed! {
         case("len", ids_alone(live(c, N)), N, |o, _| o.live(), |t, _| t.store.ids.live());
         case("freelist of 1000", ids_alone(freed(c, N, 0)), 1,
             |o, _| o.freelist(), |t, _| t.store.ids.freelist(&mut t.handles));
@@ -228,52 +250,99 @@ pub fn words() -> Vec<Box<dyn Pair>> {
     }
 }
 
+/// A declaration of a store, and how the table tells it.
+struct Shape {
+    declaration: Declaration,
+    words: String,
+    columns: usize,
+    /// The archetype that has a column less than the first.
+    less: usize,
+}
+
+impl Shape {
+    fn new(archetypes: usize, columns: usize) -> Shape {
+        let declaration = store_declaration(archetypes, columns, ROWS);
+        let words = format!("{}×{columns}", declaration.rows.len() - 1);
+        Shape { declaration, words, columns, less: archetypes + 1 }
+    }
+
+    fn start(&self, archetype: usize, used: usize) -> Start {
+        store_start(self.declaration.clone(), CAPACITY, archetype, used)
+    }
+
+    fn named(&self, call: &str) -> String {
+        format!("{call}, {}", self.words)
+    }
+}
+
 /// The store's calls at a declaration of so many archetypes of so many columns.
 pub fn store(archetypes: usize, columns: usize) -> Vec<Box<dyn Pair>> {
-    let declaration = store_declaration(archetypes, columns, ROWS);
-    let less = archetypes + 1;
-    let start = |at, used| store_start(declaration.clone(), CAPACITY, at, used);
-    let shape = format!("{}×{columns}", declaration.rows.len() - 1);
-    let row = vec![7u8; 8 * columns];
-    let (row_too, row_at, row_at_too) = (row.clone(), row.clone(), row.clone());
-    let (value, kind) = ([9u8; 8], own_kind(1));
-    let last = columns - 1;
+    let shape = Shape::new(archetypes, columns);
+    let parts = [rows(&shape), components(&shape), moves(&shape), chosen(&shape)];
+    parts.into_iter().flatten().collect()
+}
+
+fn rows(shape: &Shape) -> Vec<Box<dyn Pair>> {
+    let row = vec![7u8; 8 * shape.columns];
+    let row_too = row.clone();
     boxed! {
-        case(format!("spawn, {shape}"), start(1, 0), N,
+        case(shape.named("spawn"), shape.start(1, 0), N,
             move |o, _| o.spawn(1, &row), move |t, _| t.store.spawn(1, &row_too, &t.kinds));
-        case(format!("despawn, {shape}"), start(1, N), N,
+        case(shape.named("despawn"), shape.start(1, N), N,
             |o, i| o.despawn(bits(i as u32, 1)), |t, i| t.store.despawn(bits(i as u32, 1)));
-        case(format!("read, {shape}"), start(1, N), N,
+    }
+}
+
+/// Calls that leave every row where it is.
+fn components(shape: &Shape) -> Vec<Box<dyn Pair>> {
+    let (value, kind, last) = ([9u8; 8], own_kind(1), shape.columns - 1);
+    boxed! {
+        case(shape.named("read"), shape.start(1, N), N,
             move |o, i| o.read(bits(i as u32, 1), kind),
             move |t, i| first(t.store.read(bits(i as u32, 1), t.kinds[last].0, 8)));
-        case(format!("write, {shape}"), start(1, N), N,
+        case(shape.named("write"), shape.start(1, N), N,
             move |o, i| o.write(bits(i as u32, 1), kind, &value),
             move |t, i| t.store.write(bits(i as u32, 1), t.kinds[last].0, &value));
-        case(format!("get, {shape}"), start(1, N), N,
+        case(shape.named("get"), shape.start(1, N), N,
             |o, i| o.store_get(bits(i as u32, 1)), |t, i| t.store.ids.get(bits(i as u32, 1)));
-        case(format!("contains, {shape}"), start(1, N), N,
+        case(shape.named("contains"), shape.start(1, N), N,
             |o, i| o.store_contains(bits(i as u32, 1)),
             |t, i| t.store.ids.contains(bits(i as u32, 1)));
-        case(format!("borrow and release a column, {shape}"), start(1, N), N,
+        case(shape.named("borrow and release a column"), shape.start(1, N), N,
             move |o, _| o.borrow(1, kind) + o.release_column(1, kind),
             move |t, _| {
                 t.store.borrow(1, t.kinds[last].0);
                 t.store.release(1, t.kinds[last].0);
                 0
             });
-        case(format!("insert, {shape}"), start(less, N), N,
+    }
+}
+
+/// Calls that move a row to another archetype.
+fn moves(shape: &Shape) -> Vec<Box<dyn Pair>> {
+    let (value, kind, less) = ([9u8; 8], own_kind(1), shape.less);
+    boxed! {
+        case(shape.named("insert"), shape.start(less, N), N,
             move |o, i| o.insert(bits(i as u32, 1), kind, &value),
             move |t, i| {
                 let kind = t.kind(kind);
                 t.store.move_entity(bits(i as u32, 1), 1, Some((kind, &value)))
             });
-        case(format!("remove, {shape}"), start(1, N), N,
+        case(shape.named("remove"), shape.start(1, N), N,
             move |o, i| o.remove(bits(i as u32, 1), kind),
             move |t, i| t.store.move_entity(bits(i as u32, 1), less as u32, None));
-        case(format!("spawn_at, {shape}"), start(1, 0), N,
-            move |o, i| o.spawn_at(bits(i as u32, 9), 1, &row_at),
-            move |t, i| { t.store.spawn_at(bits(i as u32, 9), 1, &row_at_too, &t.kinds); 0 });
-        case(format!("reserve_entities of 1000, flush, {shape}"), start(1, 0), 1,
+    }
+}
+
+/// Rows of handles that were chosen or reserved before.
+fn chosen(shape: &Shape) -> Vec<Box<dyn Pair>> {
+    let row = vec![7u8; 8 * shape.columns];
+    let row_too = row.clone();
+    boxed! {
+        case(shape.named("spawn_at"), shape.start(1, 0), N,
+            move |o, i| o.spawn_at(bits(i as u32, 9), 1, &row),
+            move |t, i| { t.store.spawn_at(bits(i as u32, 9), 1, &row_too, &t.kinds); 0 });
+        case(shape.named("reserve_entities of 1000, flush"), shape.start(1, 0), 1,
             |o, _| o.store_reserve_entities(N) + o.store_flush(),
             |t, _| {
                 t.store.ids.reserve_entities(&mut t.handles[..N]);

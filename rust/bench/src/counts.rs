@@ -48,15 +48,13 @@ pub fn counted() {
         pair.reset();
         part(|| pair.run_ours());
     }
-    for (_, pairs) in &mut all {
-        for pair in pairs {
-            pair.reset();
-            pair.run_ours();
-            pair.run_theirs();
-            pair.reset();
-            part(|| pair.run_ours());
-            part(|| pair.run_theirs());
-        }
+    for pair in all.iter_mut().flat_map(|(_, pairs)| pairs) {
+        pair.reset();
+        pair.run_ours();
+        pair.run_theirs();
+        pair.reset();
+        part(|| pair.run_ours());
+        part(|| pair.run_theirs());
     }
 }
 

@@ -147,6 +147,17 @@ fn read(archetypes: usize, columns: usize, n: usize) -> Box<dyn Pair> {
     ))
 }
 
+fn print(panel: &Panel) {
+    println!("\n### By {}: nanoseconds a call, ours / the original\n", panel.title);
+    let sizes: Vec<String> = panel.sizes.iter().map(ToString::to_string).collect();
+    println!("| call | {} |\n|---|{}", sizes.join(" | "), "---:|".repeat(sizes.len()));
+    for line in &panel.lines {
+        let both = line.ours.iter().zip(&line.theirs);
+        let cells: Vec<String> = both.map(|(o, t)| format!("{o:.1} / {t:.1}")).collect();
+        println!("| {} | {} |", line.name, cells.join(" | "));
+    }
+}
+
 /// Measures, prints the table and writes the plot.
 pub fn table(rounds: usize, file: &str) -> Result<(), String> {
     let panels = [
@@ -155,16 +166,7 @@ pub fn table(rounds: usize, file: &str) -> Result<(), String> {
         panel("columns of an archetype", &[1, 2, 4, 8, 16], &BY_COLUMNS, rounds),
         panel("archetypes of 3 columns", &[1, 2, 4, 8, 14], &BY_ARCHETYPES, rounds),
     ];
-    for panel in &panels {
-        println!("\n### By {}: nanoseconds a call, ours / the original\n", panel.title);
-        let sizes: Vec<String> = panel.sizes.iter().map(ToString::to_string).collect();
-        println!("| call | {} |\n|---|{}", sizes.join(" | "), "---:|".repeat(sizes.len()));
-        for line in &panel.lines {
-            let both = line.ours.iter().zip(&line.theirs);
-            let cells: Vec<String> = both.map(|(o, t)| format!("{o:.1} / {t:.1}")).collect();
-            println!("| {} | {} |", line.name, cells.join(" | "));
-        }
-    }
+    panels.iter().for_each(print);
     std::fs::write(file, plot(&panels)).map_err(|error| format!("{file}: {error}"))?;
     println!("\nThe plot is in {file}.");
     Ok(())
@@ -195,57 +197,97 @@ fn plot(panels: &[Panel]) -> String {
     svg
 }
 
+/// Where a panel's axes are, and which powers of two the upright one goes from and to.
+struct Axes {
+    left: f64,
+    bottom: f64,
+    wide: f64,
+    tall: f64,
+    steps: f64,
+    low: f64,
+    high: f64,
+}
+
+impl Axes {
+    fn new(panel: &Panel, left: f64, top: f64) -> Axes {
+        let both = |line: &Line| [line.ours.clone(), line.theirs.clone()].concat();
+        let all: Vec<f64> = panel.lines.iter().flat_map(both).collect();
+        Axes {
+            left: left + 46.0,
+            bottom: top + HEIGHT - 44.0,
+            wide: WIDTH - 190.0,
+            tall: HEIGHT - 76.0,
+            steps: (panel.sizes.len() - 1).max(1) as f64,
+            low: all.iter().copied().fold(f64::MAX, f64::min).max(0.1).log2().floor(),
+            high: all.iter().copied().fold(0.1, f64::max).log2().ceil(),
+        }
+    }
+
+    fn x(&self, at: usize) -> f64 {
+        self.left + self.wide * at as f64 / self.steps
+    }
+
+    fn y(&self, ns: f64) -> f64 {
+        let part = ns.max(0.1).log2() - self.low;
+        self.bottom - self.tall * part / (self.high - self.low).max(1.0)
+    }
+}
+
 fn draw(svg: &mut String, panel: &Panel, left: f64, top: f64) {
-    let all = || panel.lines.iter().flat_map(|line| line.ours.iter().chain(&line.theirs)).copied();
-    let low = all().fold(f64::MAX, f64::min).max(0.1).log2().floor();
-    let high = all().fold(0.1, f64::max).log2().ceil();
-    let (x0, y0) = (left + 46.0, top + HEIGHT - 44.0);
-    let (wide, tall) = (WIDTH - 190.0, HEIGHT - 76.0);
-    let x = |at: usize| x0 + wide * at as f64 / (panel.sizes.len() - 1).max(1) as f64;
-    let y = |ns: f64| y0 - tall * (ns.max(0.1).log2() - low) / (high - low).max(1.0);
-    let middle = x0 + wide / 2.0;
+    let axes = Axes::new(panel, left, top);
     let _ = writeln!(
         svg,
-        "<text x=\"{middle:.0}\" y=\"{:.0}\" text-anchor=\"middle\">{}</text>",
-        y0 + 34.0,
+        "<text x=\"{:.0}\" y=\"{:.0}\" text-anchor=\"middle\">{}</text>",
+        axes.left + axes.wide / 2.0,
+        axes.bottom + 34.0,
         panel.title
     );
-    for power in low as i32..=high as i32 {
-        let (at, ns) = (y(2f64.powi(power)), 2f64.powi(power));
+    draw_powers(svg, &axes);
+    draw_sizes(svg, &axes, &panel.sizes);
+    for (i, line) in panel.lines.iter().enumerate() {
+        let colour = COLOURS[i % COLOURS.len()];
+        draw_values(svg, &axes, &line.ours, colour, "");
+        draw_values(svg, &axes, &line.theirs, colour, " stroke-dasharray=\"4 3\"");
+        let (x, y) = (axes.left + axes.wide + 10.0, top + 30.0 + 16.0 * i as f64);
+        let _ =
+            writeln!(svg, "<text x=\"{x:.0}\" y=\"{y:.0}\" fill=\"{colour}\">{}</text>", line.name);
+    }
+}
+
+/// A level line, and how many nanoseconds it stands for, at each power of two.
+fn draw_powers(svg: &mut String, axes: &Axes) {
+    let Axes { left, wide, .. } = axes;
+    for power in axes.low as i32..=axes.high as i32 {
+        let ns = 2f64.powi(power);
+        let at = axes.y(ns);
         let _ = writeln!(
             svg,
-            "<path d=\"M{x0:.1} {at:.1}h{wide:.1}\" stroke=\"#e5e7eb\"/><text x=\"{:.0}\" y=\"{:.0}\" text-anchor=\"end\">{ns}</text>",
-            x0 - 5.0,
+            "<path d=\"M{left:.1} {at:.1}h{wide:.1}\" stroke=\"#e5e7eb\"/><text x=\"{:.0}\" y=\"{:.0}\" text-anchor=\"end\">{ns}</text>",
+            left - 5.0,
             at + 4.0
         );
     }
-    for (at, size) in panel.sizes.iter().enumerate() {
+}
+
+/// The sizes below the level axis.
+fn draw_sizes(svg: &mut String, axes: &Axes, sizes: &[usize]) {
+    for (at, size) in sizes.iter().enumerate() {
         let _ = writeln!(
             svg,
             "<text x=\"{:.0}\" y=\"{:.0}\" text-anchor=\"middle\">{size}</text>",
-            x(at),
-            y0 + 16.0
+            axes.x(at),
+            axes.bottom + 16.0
         );
     }
-    for (i, line) in panel.lines.iter().enumerate() {
-        let colour = COLOURS[i % COLOURS.len()];
-        for (values, dash) in [(&line.ours, ""), (&line.theirs, " stroke-dasharray=\"4 3\"")] {
-            let points: Vec<String> = values
-                .iter()
-                .enumerate()
-                .map(|(at, ns)| format!("{:.1},{:.1}", x(at), y(*ns)))
-                .collect();
-            let _ = writeln!(
-                svg,
-                "<polyline points=\"{}\" fill=\"none\" stroke=\"{colour}\" stroke-width=\"1.6\"{dash}/>",
-                points.join(" ")
-            );
-        }
-        let (lx, ly) = (x0 + wide + 10.0, top + 30.0 + 16.0 * i as f64);
-        let _ = writeln!(
-            svg,
-            "<text x=\"{lx:.0}\" y=\"{ly:.0}\" fill=\"{colour}\">{}</text>",
-            line.name
-        );
-    }
+}
+
+/// The line of one side.
+fn draw_values(svg: &mut String, axes: &Axes, values: &[f64], colour: &str, dash: &str) {
+    let point = |(at, ns): (usize, &f64)| format!("{:.1},{:.1}", axes.x(at), axes.y(*ns));
+    let points: Vec<String> = values.iter().enumerate().map(point).collect();
+    let _ = writeln!(
+        svg,
+        "<polyline points=\"{}\" fill=\"none\" stroke=\"{colour}\" stroke-width=\"1.6\"{dash}/>",
+        points.join(" ")
+    );
 }

@@ -68,6 +68,22 @@ fn handles(e: Exchange, room: usize, given: &[u64]) -> Exchange {
     e.slice("handles", &before, &after)
 }
 
+/// The output of an alloc many, which is a walking state; none where it is refused.
+fn walking_state(e: Exchange, values: &[u64]) -> Exchange {
+    let mut state = [0u32; 4];
+    for (into, v) in state.iter_mut().zip(values) {
+        *into = *v as u32;
+    }
+    e.array("out", &[7u32, 8, 9, 10], &state)
+}
+
+/// The outputs of a freelist: the handles, and how many they are where it is granted.
+fn free_handles(e: Exchange, before: &IdTables, code: u32, values: &[u64]) -> Exchange {
+    let room = before.head.cursor.max(0) as usize;
+    let count = if code == 0 { vec![values.len() as u64] } else { Vec::new() };
+    handles(e, room, values).out(&count)
+}
+
 /// The exchange of a call that the original answered with this.
 pub fn exchange(
     call: &IdCall,
@@ -85,16 +101,8 @@ pub fn exchange(
         }
         IdCall::Alloc(p) => begin("verdict_ids_alloc").numbers(&place(p)).out(values),
         IdCall::AllocMany(n, p) => {
-            let e = begin("verdict_ids_alloc_many").numbers(&[
-                n.into(),
-                p.archetype.into(),
-                p.index.into(),
-            ]);
-            let mut state = [0u32; 4];
-            for (into, v) in state.iter_mut().zip(values) {
-                *into = *v as u32;
-            }
-            e.array("out", &[7u32, 8, 9, 10], &state)
+            let e = begin("verdict_ids_alloc_many").numbers(&[n.into()]).numbers(&place(p));
+            walking_state(e, values)
         }
         IdCall::AllocAt(bits, p) => {
             begin("verdict_ids_alloc_at").numbers(&[bits]).numbers(&place(p)).out(values)
@@ -110,11 +118,7 @@ pub fn exchange(
         }
         IdCall::Flush(p) => begin("verdict_ids_flush").numbers(&place(p)),
         IdCall::Len => begin("verdict_ids_len").out(values),
-        IdCall::Freelist => {
-            let count = if code == 0 { vec![values.len() as u64] } else { Vec::new() };
-            let room = before.head.cursor.max(0) as usize;
-            handles(begin("verdict_ids_freelist"), room, values).out(&count)
-        }
+        IdCall::Freelist => free_handles(begin("verdict_ids_freelist"), before, code, values),
         IdCall::Clear => begin("verdict_ids_clear"),
     }
 }
@@ -136,6 +140,63 @@ pub fn walk(pending: &[u32], values: &[u64]) -> Vec<Exchange> {
     steps
 }
 
+/// The steps of such a walk, compared.
+fn play_walk(
+    ours: &mut Ours,
+    tally: &mut Tally,
+    pending: &[u32],
+    values: &[u64],
+) -> Result<(), Difference> {
+    for step in walk(pending, values) {
+        tally.called("alloc many next", 0, 2);
+        ours.compare(step)?;
+    }
+    Ok(())
+}
+
+/// The capacity of a sequence's tables, and the most numbers that they use at its beginning.
+fn sizes(s: u64) -> (usize, usize) {
+    let capacity = match s % 40 {
+        0 => 4096,
+        1 | 2 => 0,
+        3..=5 => 1,
+        6..=12 => 257,
+        _ => 16,
+    };
+    let most = match s % 7 {
+        0 => 0,
+        1 | 2 if capacity > 16 => 12,
+        _ => capacity,
+    };
+    (capacity, most)
+}
+
+/// A sequence of so many calls, from these tables on.
+fn sequence(
+    ours: &mut Ours,
+    tally: &mut Tally,
+    rng: &mut Rng,
+    calls: usize,
+    mut before: IdTables,
+) -> Result<(), Difference> {
+    let mut ids = Ids::new(&before);
+    let mut after = before.clone();
+    for _ in 0..calls {
+        let call = id_call(rng, &before);
+        let said = ids.call(&call);
+        ids.dump(&mut after);
+        let Some((code, values)) = tally.answered(kind(&call), 5, &call, said) else {
+            continue;
+        };
+        ours.compare(exchange(&call, &before, &after, code, &values))?;
+        if let (IdCall::AllocMany(..), 0) = (&call, code) {
+            play_walk(ours, tally, &after.pending, &values)?;
+        }
+        before.clone_from(&after);
+    }
+    Ok(())
+}
+
 /// Sequences from fresh and constructed sound tables, until there were `count` calls.
 pub fn run(ours: &mut Ours, tally: &mut Tally, seed: u64, count: u64) -> Result<(), Difference> {
     for s in 0.. {
@@ -143,38 +204,10 @@ pub fn run(ours: &mut Ours, tally: &mut Tally, seed: u64, count: u64) -> Result<
             break;
         }
         let mut rng = Rng(seed.wrapping_add(s * 0xd134_2543));
-        let capacity = match s % 40 {
-            0 => 4096,
-            1 | 2 => 0,
-            3..=5 => 1,
-            6..=12 => 257,
-            _ => 16,
-        };
-        let most = match s % 7 {
-            0 => 0,
-            1 | 2 if capacity > 16 => 12,
-            _ => capacity,
-        };
-        let mut before = id_tables(&mut rng, capacity, most);
+        let (capacity, most) = sizes(s);
+        let before = id_tables(&mut rng, capacity, most);
         assert!(before.is_sound());
-        let mut ids = Ids::new(&before);
-        let mut after = before.clone();
-        for _ in 0..if capacity <= 1 { 20 } else { 80 } {
-            let call = id_call(&mut rng, &before);
-            let said = ids.call(&call);
-            ids.dump(&mut after);
-            let Some((code, values)) = tally.answered(kind(&call), 5, &call, said) else {
-                continue;
-            };
-            ours.compare(exchange(&call, &before, &after, code, &values))?;
-            if let (IdCall::AllocMany(..), 0) = (&call, code) {
-                for step in walk(&after.pending, &values) {
-                    tally.called("alloc many next", 0, 2);
-                    ours.compare(step)?;
-                }
-            }
-            before.clone_from(&after);
-        }
+        sequence(ours, tally, &mut rng, if capacity <= 1 { 20 } else { 80 }, before)?;
     }
     ours.settle()
 }

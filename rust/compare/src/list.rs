@@ -226,6 +226,37 @@ fn digest(sum: u64, table: &[u64], words: bool) -> u64 {
     })
 }
 
+/// What a call has beside the tables: its arguments, the four numbers of its answer, and what it
+/// is lent and leaves, as words or as bytes.
+struct Beside {
+    numbers: Vec<u64>,
+    out: Vec<u64>,
+    before: Vec<u64>,
+    after: Vec<u64>,
+    words: bool,
+}
+
+impl Beside {
+    fn new(numbers: Vec<u64>) -> Beside {
+        Beside { numbers, out: vec![0; 4], before: Vec::new(), after: Vec::new(), words: true }
+    }
+
+    /// A single word crosses as an argument and as the answer's first number.
+    fn take(&mut self, part: &Apart) {
+        match (part.name, part.size) {
+            ("out", 8) => self.out.clone_from(&part.after),
+            ("word", _) => {
+                self.numbers.push(part.before[0]);
+                self.out[0] = part.after[0];
+            }
+            _ => {
+                (self.before, self.after) = (part.before.clone(), part.after.clone());
+                self.words = part.size != 1;
+            }
+        }
+    }
+}
+
 impl List {
     fn new(name: &str) -> List {
         let program = PROGRAMS.iter().find(|p| p.name == name).expect("a program");
@@ -307,40 +338,33 @@ impl List {
         })
     }
 
+    /// Leaves the tables as the call does. What the call has beside them.
+    fn leave(&mut self, numbers: Vec<u64>, parts: &[Apart]) -> Beside {
+        let mut beside = Beside::new(numbers);
+        for part in parts {
+            match self.now.get_mut(part.name) {
+                Some(now) => now.iter_mut().zip(&part.after).for_each(|(n, v)| *n = *v),
+                None => beside.take(part),
+            }
+        }
+        beside
+    }
+
     fn call(&mut self, e: &Exchange) {
-        let (mut numbers, parts) = e.taken_apart();
+        let (numbers, parts) = e.taken_apart();
         let name = e.name();
         let position = self.program.calls.iter().position(|c| *c == name).expect("its call");
         self.tell(&parts);
         let lengths = self.lengths(&parts);
-        let (mut before, mut after, mut words) = (Vec::new(), Vec::new(), true);
-        let mut out = vec![0; 4];
-        for part in &parts {
-            if self.table(part.name).is_some() {
-                let now = self.now.get_mut(part.name).unwrap();
-                now.iter_mut().zip(&part.after).for_each(|(n, v)| *n = *v);
-                continue;
-            }
-            match (part.name, part.size) {
-                ("out", 8) => out.clone_from(&part.after),
-                ("word", _) => {
-                    numbers.push(part.before[0]);
-                    out[0] = part.after[0];
-                }
-                _ => {
-                    (before, after) = (part.before.clone(), part.after.clone());
-                    words = part.size != 1;
-                }
-            }
-        }
-        assert!(numbers.len() <= 3 && before.len() <= ROOM);
+        let beside = self.leave(numbers, &parts);
+        assert!(beside.numbers.len() <= 3 && beside.before.len() <= ROOM);
         let mut line = vec![position as u64 + 2];
-        line.extend(numbers.iter().copied().chain([0; 3]).take(3));
+        line.extend(beside.numbers.iter().copied().chain([0; 3]).take(3));
         line.extend(lengths.map(|n| n as u64));
-        line.extend(before);
+        line.extend(beside.before);
         self.line(&line);
-        let left = digest(self.left(lengths), &after, words);
-        let answer: String = out.iter().map(|v| format!(" {v:x}")).collect();
+        let left = digest(self.left(lengths), &beside.after, beside.words);
+        let answer: String = beside.out.iter().map(|v| format!(" {v:x}")).collect();
         let _ = writeln!(self.told, "{:x}{answer} {left:x}", e.code());
         self.seen.insert((name, e.code() as u32));
         moves::done(e)
@@ -562,6 +586,44 @@ impl List {
     }
 }
 
+/// Each of these calls on tables of a capacity above the limit.
+fn add_above_limit(list: &mut List, rng: &mut Rng, kinds: &[usize]) {
+    let t = above_limit(rng);
+    for which in kinds {
+        let called = store::made(rng, *which, &t).0;
+        list.add(&called, usize::MAX);
+    }
+}
+
+/// Tables that fit, sound or damaged, and often crowded for the calls that move rows.
+fn some_tables(rng: &mut Rng, ids: bool, moving: bool) -> second::Tables {
+    let oracle::Declaration { rows, widths, types, sizes } = oracle::Declaration::of(&DECLARED);
+    let capacity = if ids && rng.percent(10) { 1 } else { 16 };
+    let mut t = sound_of(rng, second::Declaration { rows, widths, types, sizes }, capacity);
+    if moving && rng.percent(75) {
+        crowd(rng, &mut t);
+    }
+    damage_within(rng, &mut t);
+    t
+}
+
+/// A sequence of fifteen of these calls, each from where the last that was added left the tables.
+fn add_sequence(
+    list: &mut List,
+    rng: &mut Rng,
+    kinds: &[usize],
+    enough: usize,
+    mut t: second::Tables,
+) {
+    for _ in 0..15 {
+        let which = store::next_call(rng, kinds, &t);
+        let (called, _, after) = store::made(rng, which, &t);
+        if list.add(&called, enough) {
+            t = after;
+        }
+    }
+}
+
 /// Calls that the second program answers, on sound and on damaged tables, until there are enough
 /// and every call and every number that it can give has occurred.
 fn of_second(list: &mut List, rng: &mut Rng, enough: usize) {
@@ -571,71 +633,66 @@ fn of_second(list: &mut List, rng: &mut Rng, enough: usize) {
         kinds.iter().copied().filter(|i| moves::moves_rows(store::WANTED[*i].1)).collect();
     let ids = list.program.tables == IDS;
     if ids {
-        let t = above_limit(rng);
-        for which in &kinds {
-            let called = store::made(rng, *which, &t).0;
-            list.add(&called, usize::MAX);
-        }
+        add_above_limit(list, rng, &kinds);
     }
     // the calls that move rows come twice as often as the others
     kinds.extend(&moving);
-    let d = oracle::Declaration::of(&DECLARED);
     for _ in 0..20_000 {
         if list.calls >= enough && list.missing().is_empty() {
             return;
         }
-        let d = second::Declaration {
-            rows: d.rows.clone(),
-            widths: d.widths.clone(),
-            types: d.types.clone(),
-            sizes: d.sizes.clone(),
-        };
-        let capacity = if ids && rng.percent(10) { 1 } else { 16 };
-        let mut t = sound_of(rng, d, capacity);
-        if !moving.is_empty() && rng.percent(75) {
-            crowd(rng, &mut t);
-        }
-        damage_within(rng, &mut t);
-        for _ in 0..15 {
-            let which = store::next_call(rng, &kinds, &t);
-            let (called, _, after) = store::made(rng, which, &t);
-            if list.add(&called, enough) {
-                t = after;
-            }
-        }
+        let t = some_tables(rng, ids, !moving.is_empty());
+        add_sequence(list, rng, &kinds, enough, t);
     }
     panic!("not in the list: {:?}", list.missing());
 }
 
-/// Words, handles and ids: the examples, then what the original answers, then the second program.
-fn of_ids(rng: &mut Rng) -> List {
-    let mut list = List::new("replay_ids");
-    list.examples();
-    for w in WORDS {
-        (0..4).for_each(|which| list.word(which, w));
-    }
-    for position in [9, u64::MAX] {
-        (0..4).for_each(|which| list.past(which, position));
-    }
+/// Every word that stands for a case, with each call, and each call past the end of a table.
+fn add_words(list: &mut List) {
+    WORDS.iter().for_each(|w| (0..4).for_each(|which| list.word(which, *w)));
+    [9, u64::MAX].iter().for_each(|position| (0..4).for_each(|which| list.past(which, *position)));
+}
+
+fn add_some_words(list: &mut List, rng: &mut Rng) {
     for _ in 0..40 {
         let w = some_word(rng);
         list.word(rng.below(4) as usize, w);
         list.unpack(if rng.percent(70) { rng.number() } else { rng.below(1 << 33) });
         list.pack(rng.number() as u32, rng.below(3) as u32);
     }
-    for s in 0..30 {
-        let capacity = rng.pick(&[0, 1, 16, 16, 16, 16]);
-        let mut tables = id_tables(rng, capacity, if s % 7 == 0 { 0 } else { capacity });
-        let mut ids = Ids::new(&tables);
-        for _ in 0..if capacity < 2 { 8 } else { 24 } {
-            let call = id_call(rng, &tables);
-            let _outside = list.id(&mut ids, call);
-            ids.dump(&mut tables);
-        }
+}
+
+/// A sequence of id calls that the original answers.
+fn add_ids(list: &mut List, rng: &mut Rng, s: i32) {
+    let capacity = rng.pick(&[0, 1, 16, 16, 16, 16]);
+    let mut tables = id_tables(rng, capacity, if s % 7 == 0 { 0 } else { capacity });
+    let mut ids = Ids::new(&tables);
+    for _ in 0..if capacity < 2 { 8 } else { 24 } {
+        let call = id_call(rng, &tables);
+        let _outside = list.id(&mut ids, call);
+        ids.dump(&mut tables);
     }
+}
+
+/// Words, handles and ids: the examples, then what the original answers, then the second program.
+fn of_ids(rng: &mut Rng) -> List {
+    let mut list = List::new("replay_ids");
+    list.examples();
+    add_words(&mut list);
+    add_some_words(&mut list, rng);
+    (0..30).for_each(|s| add_ids(&mut list, rng, s));
     let enough = list.calls + 500;
     of_second(&mut list, rng, enough);
     list
+}
+
+/// A sequence of column calls that the original answers.
+fn add_columns(list: &mut List, rng: &mut Rng, d: &oracle::Declaration) {
+    let mut columns = Columns::new(d, &column_tables(rng, d));
+    for _ in 0..30 {
+        let call = column_call(rng, d, &columns.tables());
+        let _outside = list.column(&mut columns, call);
+    }
 }
 
 /// Columns: K10, then what the original answers, then the second program.
@@ -646,13 +703,7 @@ fn of_columns(rng: &mut Rng) -> List {
     (10..13).for_each(|n| list.column_example(&mut columns, ColumnCall::Allocate(2, n)));
     list.column_example(&mut columns, ColumnCall::Remove(2, 0));
     list.column_example(&mut columns, ColumnCall::Remove(2, 1));
-    for _ in 0..20 {
-        let mut columns = Columns::new(&d, &column_tables(rng, &d));
-        for _ in 0..30 {
-            let call = column_call(rng, &d, &columns.tables());
-            let _outside = list.column(&mut columns, call);
-        }
-    }
+    (0..20).for_each(|_| add_columns(&mut list, rng, &d));
     let enough = list.calls + 300;
     of_second(&mut list, rng, enough);
     list

@@ -192,50 +192,86 @@ fn batch(side: &mut Side, pending: &[u32], walk: &Walk) -> Result<(), Difference
     Ok(())
 }
 
-/// A sequence of id calls, of which the reservations and the batches are walked. The other calls
-/// only lead to other tables: the run `ids` compares them.
-fn beside_original(side: &mut Side, rng: &mut Rng, s: u64) -> Result<(), Difference> {
+/// What the original says to a call: a walk, where it is a reservation or a batch.
+fn original_said(original: &mut Ids, call: &IdCall) -> Result<Option<Walk>, No> {
+    match *call {
+        IdCall::ReserveEntities(n) => original.reserve_walk(n).map(Some),
+        IdCall::AllocMany(n, p) => original.alloc_many_walk(n, p.archetype, p.index).map(Some),
+        _ => original.call(call).map(|_| None),
+    }
+}
+
+/// A granted alloc many, and the walk over its numbers.
+fn granted_batch(
+    side: &mut Side,
+    call: &IdCall,
+    before: &IdTables,
+    after: &IdTables,
+    walk: &Walk,
+) -> Result<(), Difference> {
+    let state = state_at(&walk.stands[0]).map(u64::from);
+    let e = crate::ids::exchange(call, before, after, 0, &state);
+    side.call("alloc many", 0, 5, e)?;
+    batch(side, &after.pending, walk)
+}
+
+/// A reservation or a batch to which the original said this.
+fn compare_walk(
+    side: &mut Side,
+    call: &IdCall,
+    before: &IdTables,
+    after: &IdTables,
+    said: Result<Option<Walk>, No>,
+) -> Result<(), Difference> {
+    match (*call, said) {
+        (_, Err(No::Panicked(words))) => panic!("the original panicked on {call:?}: {words}"),
+        (IdCall::ReserveEntities(n), Ok(Some(walk))) => reservation(side, n, before, after, &walk)?,
+        (IdCall::AllocMany(..), Ok(Some(walk))) => {
+            granted_batch(side, call, before, after, &walk)?;
+        }
+        (IdCall::AllocMany(..), Err(No::Refused(number))) => {
+            let e = crate::ids::exchange(call, before, after, number, &[]);
+            side.call("alloc many", number, 5, e)?;
+        }
+        (IdCall::ReserveEntities(_), Err(No::Outside(number))) => {
+            side.tally.left_out("reserve span", number);
+        }
+        (IdCall::AllocMany(..), Err(No::Outside(number))) => {
+            side.tally.left_out("alloc many", number);
+        }
+        _ => {}
+    }
+    Ok(())
+}
+
+/// The capacity of a sequence's tables, and the most numbers that they use at its beginning.
+fn sizes(s: u64) -> (usize, usize) {
     let capacity = match s % 20 {
         0 => 257,
         1 => 0,
         2 | 3 => 1,
         _ => 16,
     };
-    let mut before = id_tables(rng, capacity, if s % 7 == 0 { 0 } else { capacity });
+    let most = match s % 7 {
+        0 => 0,
+        _ => capacity,
+    };
+    (capacity, most)
+}
+
+/// A sequence of id calls, of which the reservations and the batches are walked. The other calls
+/// only lead to other tables: the run `ids` compares them.
+fn beside_original(side: &mut Side, rng: &mut Rng, s: u64) -> Result<(), Difference> {
+    let (capacity, most) = sizes(s);
+    let mut before = id_tables(rng, capacity, most);
     assert!(before.is_sound());
     let mut original = Ids::new(&before);
     let mut after = before.clone();
     for _ in 0..40 {
         let call = id_call(rng, &before);
-        let said = match call {
-            IdCall::ReserveEntities(n) => original.reserve_walk(n).map(Some),
-            IdCall::AllocMany(n, p) => original.alloc_many_walk(n, p.archetype, p.index).map(Some),
-            _ => original.call(&call).map(|_| None),
-        };
+        let said = original_said(&mut original, &call);
         original.dump(&mut after);
-        match (call, said) {
-            (_, Err(No::Panicked(words))) => panic!("the original panicked on {call:?}: {words}"),
-            (IdCall::ReserveEntities(n), Ok(Some(walk))) => {
-                reservation(side, n, &before, &after, &walk)?;
-            }
-            (IdCall::AllocMany(..), Ok(Some(walk))) => {
-                let state = state_at(&walk.stands[0]).map(u64::from);
-                let e = crate::ids::exchange(&call, &before, &after, 0, &state);
-                side.call("alloc many", 0, 5, e)?;
-                batch(side, &after.pending, &walk)?;
-            }
-            (IdCall::AllocMany(..), Err(No::Refused(number))) => {
-                let e = crate::ids::exchange(&call, &before, &after, number, &[]);
-                side.call("alloc many", number, 5, e)?;
-            }
-            (IdCall::ReserveEntities(_), Err(No::Outside(number))) => {
-                side.tally.left_out("reserve span", number);
-            }
-            (IdCall::AllocMany(..), Err(No::Outside(number))) => {
-                side.tally.left_out("alloc many", number);
-            }
-            _ => {}
-        }
+        compare_walk(side, &call, &before, &after, said)?;
         before.clone_from(&after);
     }
     Ok(())
@@ -361,27 +397,42 @@ fn asked(rng: &mut Rng, t: &Tables) -> u64 {
     }
 }
 
+/// A reservation on any tables and the walk over its handles. The tables after it, if it is granted.
+fn reservation_any(
+    side: &mut Side,
+    rng: &mut Rng,
+    t: &Tables,
+) -> Result<Option<Tables>, Difference> {
+    let n = asked(rng, t);
+    let Some((mut reader, after)) = span_any(side, t, n)? else { return Ok(None) };
+    for _ in 0..60 {
+        let generations = spoilt(rng, &reader, &after.generations);
+        if step_any(side, &mut reader, &generations)? {
+            break;
+        }
+    }
+    Ok(Some(after))
+}
+
+/// Four steps of a reader that no reservation made.
+fn reader_any(side: &mut Side, rng: &mut Rng, generations: &[u32]) -> Result<(), Difference> {
+    let mut reader = some_reader(rng);
+    for _ in 0..4 {
+        let generations = spoilt(rng, &reader, generations);
+        step_any(side, &mut reader, &generations)?;
+    }
+    Ok(())
+}
+
 fn beside_second(side: &mut Side, rng: &mut Rng, s: u64) -> Result<(), Difference> {
     let mut t = if s % 500 == 1 { above_limit(rng) } else { sound(rng) };
     if rng.percent(80) {
         damage(rng, &mut t);
     }
     for _ in 0..4 {
-        let n = asked(rng, &t);
-        let Some((mut reader, after)) = span_any(side, &t, n)? else { continue };
-        for _ in 0..60 {
-            let generations = spoilt(rng, &reader, &after.generations);
-            if step_any(side, &mut reader, &generations)? {
-                break;
-            }
-        }
-        t = after;
+        t = reservation_any(side, rng, &t)?.unwrap_or(t);
     }
-    let mut reader = some_reader(rng);
-    for _ in 0..4 {
-        let generations = spoilt(rng, &reader, &t.generations);
-        step_any(side, &mut reader, &generations)?;
-    }
+    reader_any(side, rng, &t.generations)?;
     walk_any(side, some_state(rng), &t.pending)
 }
 
