@@ -12,10 +12,7 @@ pub struct Handle {
 }
 
 /// 01, Modules 2: the fixed handle DANGLING.
-pub const DANGLING: Handle = Handle {
-    generation: MAX,
-    number: MAX,
-};
+pub const DANGLING: Handle = Handle { generation: MAX, number: MAX };
 
 /// Bits to handle.
 pub fn from_bits(bits: u64) -> Answer<Handle> {

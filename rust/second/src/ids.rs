@@ -84,7 +84,12 @@ pub(crate) fn step_alloc(t: &mut Tables, place: Place) -> u64 {
 }
 
 /// 01 "Alloc at (g, i)". Answers the old place of a live number.
-pub(crate) fn step_alloc_at(t: &mut Tables, generation: u32, number: u32, place: Place) -> Option<Place> {
+pub(crate) fn step_alloc_at(
+    t: &mut Tables,
+    generation: u32,
+    number: u32,
+    place: Place,
+) -> Option<Place> {
     let old = if !below_used(t, number) {
         // "numbers used to i - 1 become pending, in order, generation 1,
         // place (0, MAX)"
@@ -204,13 +209,7 @@ pub fn reserve_reader(t: &mut Tables, n: u64) -> Answer<ReserveReader> {
     refuse_if(any_damaged_pending(t, reserve_part(t, n)), 1)?; // 01 Damage; R10
     let start = reserve_positions(t, n).start;
     let (part, next, new_end) = step_reserve_many(t, n);
-    Ok(ReserveReader {
-        start,
-        part,
-        position: 0,
-        next,
-        new_end,
-    })
+    Ok(ReserveReader { start, part, position: 0, next, new_end })
 }
 
 /// One step of the reader: the next handle, or none at the end. It is lent

@@ -49,9 +49,7 @@ impl Archetype {
     }
 
     pub fn position(&self, type_number: u32) -> Option<usize> {
-        self.columns
-            .iter()
-            .position(|c| c.type_number == type_number)
+        self.columns.iter().position(|c| c.type_number == type_number)
     }
 
     pub fn type_set(&self) -> BTreeSet<u32> {
@@ -86,18 +84,12 @@ impl Layout {
 
     /// The size of a type declared in any archetype.
     pub fn size_of_type(&self, type_number: u32) -> Option<usize> {
-        self.archetypes
-            .iter()
-            .find_map(|a| a.column(type_number))
-            .map(|c| c.size)
+        self.archetypes.iter().find_map(|a| a.column(type_number)).map(|c| c.size)
     }
 
     /// The archetype with exactly these types.
     pub fn with_types(&self, types: &BTreeSet<u32>) -> Option<u32> {
-        self.archetypes
-            .iter()
-            .position(|a| a.type_set() == *types)
-            .map(|a| a as u32)
+        self.archetypes.iter().position(|a| a.type_set() == *types).map(|a| a as u32)
     }
 }
 
@@ -106,12 +98,7 @@ impl Layout {
 pub fn layout(d: &Declaration) -> Result<Layout, String> {
     lengths_agree(d)?;
     archetypes_allowed(d)?;
-    let mut out = Layout {
-        archetypes: Vec::new(),
-        row_total: 0,
-        column_total: 0,
-        byte_total: 0,
-    };
+    let mut out = Layout { archetypes: Vec::new(), row_total: 0, column_total: 0, byte_total: 0 };
     for a in 0..d.rows.len() {
         lay_archetype(&mut out, d, a)?;
     }
@@ -166,11 +153,7 @@ fn lay_archetype(out: &mut Layout, d: &Declaration, a: usize) -> Result<(), Stri
     if !types_ascend(&columns) {
         return Err(format!("the types of archetype {a} do not ascend"));
     }
-    out.archetypes.push(Archetype {
-        rows,
-        first: out.row_total,
-        columns,
-    });
+    out.archetypes.push(Archetype { rows, first: out.row_total, columns });
     out.row_total += rows;
     Ok(())
 }
@@ -183,12 +166,7 @@ fn lay_column(out: &mut Layout, d: &Declaration, rows: usize) -> Result<Column, 
         return Err(format!("column {word} has a size above 64"));
     }
     let size = d.sizes[word] as usize;
-    let column = Column {
-        type_number: d.types[word],
-        size,
-        word,
-        start: out.byte_total,
-    };
+    let column = Column { type_number: d.types[word], size, word, start: out.byte_total };
     out.column_total += 1;
     out.byte_total += rows * size;
     Ok(column)
@@ -196,9 +174,7 @@ fn lay_column(out: &mut Layout, d: &Declaration, rows: usize) -> Result<Column, 
 
 /// 01 Columns: "columns stand in ascending type number".
 fn types_ascend(columns: &[Column]) -> bool {
-    columns
-        .windows(2)
-        .all(|pair| pair[0].type_number < pair[1].type_number)
+    columns.windows(2).all(|pair| pair[0].type_number < pair[1].type_number)
 }
 
 /// 01 Columns: "Two archetypes never have the same type set".
@@ -474,11 +450,7 @@ pub fn damaged_moved(t: &Tables, l: &Layout, place: Place) -> bool {
         None => false,
         Some(number) => {
             !below_used(t, number)
-                || t.place(number)
-                    != Place {
-                        archetype: place.archetype,
-                        index: last,
-                    }
+                || t.place(number) != Place { archetype: place.archetype, index: last }
         }
     }
 }

@@ -38,10 +38,7 @@ fn remove_row(t: &mut Tables, l: &Layout, place: Place) {
 fn change_archetype(t: &mut Tables, l: &Layout, number: u32, target: u32) -> Place {
     let old = t.place(number);
     let index = step_allocate(t, l, target, number);
-    let new = Place {
-        archetype: target,
-        index,
-    };
+    let new = Place { archetype: target, index };
     for column in &l.archetype(old.archetype).columns {
         if let Some(to) = l.archetype(target).column(column.type_number) {
             let (from, size) = component(column, old.index);
@@ -63,7 +60,12 @@ fn own_place(t: &Tables, l: &Layout, h: Handle) -> Answer<Place> {
 }
 
 /// The column of a type in a live handle's archetype, for read and write.
-fn own_column<'a>(t: &Tables, l: &'a Layout, h: Handle, type_number: u32) -> Answer<(Place, &'a Column)> {
+fn own_column<'a>(
+    t: &Tables,
+    l: &'a Layout,
+    h: Handle,
+    type_number: u32,
+) -> Answer<(Place, &'a Column)> {
     // 01: "A reserved handle that `get` answers gives 15 to read and write."
     refuse_if(new_reserved_handle(t, h), 15)?;
     let place = own_place(t, l, h)?; // 2, 1 (own place)
@@ -112,11 +114,7 @@ pub fn spawn_at(t: &mut Tables, bits: u64, archetype: u32, bytes: &[u8]) -> Answ
         && pending_position(t, h.number).is_none()
         && t.indices[h.number as usize] != MAX;
     refuse_if(chosen_live && damaged_own_place(t, &l, h.number), 1)?; // 01 Own place; R13
-    let old = if chosen_live {
-        Some(t.place(h.number))
-    } else {
-        None
-    };
+    let old = if chosen_live { Some(t.place(h.number)) } else { None };
 
     refuse_if(any_word_nonzero(t), 8)?; // 01 table, 8
     refuse_if(i128::from(h.number) >= capacity(t), 4)?; // 01 table, 4: chosen number; R43
@@ -231,7 +229,12 @@ pub fn write(t: &mut Tables, bits: u64, type_number: u32, bytes: &[u8]) -> Answe
 // ------------------------------------------------------------ borrow words --
 
 /// Applies a step on the word of the named column.
-fn on_word(t: &mut Tables, archetype: u32, type_number: u32, step: fn(u64) -> Answer<u64>) -> Answer<()> {
+fn on_word(
+    t: &mut Tables,
+    archetype: u32,
+    type_number: u32,
+    step: fn(u64) -> Answer<u64>,
+) -> Answer<()> {
     let l = entry(t, |_| true)?; // 12, 13, 1
     let word = named_column(&l, archetype, type_number)?.word; // 6, 15
     t.words[word] = step(t.words[word])?; // 9, 7, 8, 10, 11

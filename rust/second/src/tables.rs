@@ -34,10 +34,7 @@ pub struct Place {
 }
 
 /// The empty place (0, MAX).
-pub const EMPTY: Place = Place {
-    archetype: 0,
-    index: MAX,
-};
+pub const EMPTY: Place = Place { archetype: 0, index: MAX };
 
 #[derive(Clone, Debug, Default, PartialEq, Eq)]
 pub struct Tables {
@@ -56,10 +53,7 @@ pub struct Tables {
 impl Tables {
     /// The stored place of a number. The number must have an entry.
     pub(crate) fn place(&self, number: u32) -> Place {
-        Place {
-            archetype: self.archetypes[number as usize],
-            index: self.indices[number as usize],
-        }
+        Place { archetype: self.archetypes[number as usize], index: self.indices[number as usize] }
     }
 
     pub(crate) fn set_place(&mut self, number: u32, place: Place) {

@@ -125,11 +125,8 @@ fn some_arguments(t: &Tables, o: &mut Outputs, rng: &mut Rng) -> Arguments {
     let number = if rng.one_in(8) { odd(rng) } else { rng.below(10) as u32 };
     let archetype = rng.below(t.declaration.rows.len() as u64 + 1) as u32;
     let row = if rng.one_in(8) { odd(rng) } else { rng.below(4) as u32 };
-    let type_number = if t.declaration.types.is_empty() {
-        3
-    } else {
-        rng.pick(&t.declaration.types)
-    };
+    let type_number =
+        if t.declaration.types.is_empty() { 3 } else { rng.pick(&t.declaration.types) };
     let n = if rng.one_in(10) { odd_long(rng) } else { rng.below(6) };
     let place = at(archetype, if rng.one_in(5) { odd(rng) } else { row });
     let (width, size) = widths(&t.declaration, archetype, type_number);
@@ -179,10 +176,7 @@ fn call_of_ids(which: u64, t: &mut Tables, o: &mut Outputs, arguments: &Argument
         0 => ("ids reserve one", ids::reserve_entity(t).map(|_| ())),
         1 => ("ids reserve many", ids::reserve_entities(t, n, &mut o.handles)),
         2 => ("ids alloc", ids::alloc(t, place).map(|_| ())),
-        3 => (
-            "ids alloc many",
-            ids::alloc_many(t, n, archetype, place.index).map(|s| o.state = s),
-        ),
+        3 => ("ids alloc many", ids::alloc_many(t, n, archetype, place.index).map(|s| o.state = s)),
         4 => ("ids alloc at", ids::alloc_at(t, bits, place).map(|_| ())),
         5 => ("ids free", ids::free(t, bits).map(|_| ())),
         6 => ("ids contains", ids::contains(t, bits).map(|_| ())),
@@ -195,10 +189,7 @@ fn call_of_ids(which: u64, t: &mut Tables, o: &mut Outputs, arguments: &Argument
         13 => ("ids clear", ids::clear(t)),
         14 => ("walk", ids::alloc_many_next(&mut o.state, &t.pending).map(|_| ())),
         15 => ("reader", ids::reserve_reader(t, n).map(|r| o.reader = r)),
-        _ => (
-            "reader step",
-            ids::reserve_reader_step(&mut o.reader, &t.generations).map(|_| ()),
-        ),
+        _ => ("reader step", ids::reserve_reader_step(&mut o.reader, &t.generations).map(|_| ())),
     }
 }
 
@@ -270,11 +261,7 @@ fn lengths(t: &Tables) -> [usize; 8] {
 
 /// Tables that calls have led to, reservations flushed or not.
 fn some_tables(rng: &mut Rng) -> Tables {
-    let declaration = if rng.one_in(2) {
-        standard()
-    } else {
-        random_declaration(rng, 4)
-    };
+    let declaration = if rng.one_in(2) { standard() } else { random_declaration(rng, 4) };
     let capacity = rng.pick(&[0, 2, 8, 8, 8, 10]);
     let mut t = fresh(declaration, capacity);
     let steps = rng.below(30) as usize;

@@ -92,9 +92,7 @@ fn reserve_in_parts(t: &mut Tables, n: u64, rng: &mut Rng) -> Vec<u64> {
 }
 
 fn spawn_many(t: &mut Tables, n: u64) -> BTreeSet<u64> {
-    (0..n)
-        .map(|_| store::spawn(t, 0, &[]).expect("granted"))
-        .collect()
+    (0..n).map(|_| store::spawn(t, 0, &[]).expect("granted")).collect()
 }
 
 fn check_reserved(before: &Tables, reserved: &BTreeSet<u64>, n: u64) {

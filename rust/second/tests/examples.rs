@@ -12,10 +12,7 @@ fn ids_only() -> Tables {
 
 #[test]
 fn k1_bits() {
-    let h = Handle {
-        generation: 2,
-        number: 7,
-    };
+    let h = Handle { generation: 2, number: 7 };
     assert_eq!(to_bits(h), Ok(8_589_934_599));
     assert_eq!(from_bits(8_589_934_599), Ok(h));
     assert_eq!(id(8_589_934_599), Ok(7));
@@ -91,7 +88,8 @@ fn k5_reserve_nine() {
     let mut t = start.clone();
     let mut out = [0; 9];
     assert_eq!(ids::reserve_entities(&mut t, 9, &mut out), Ok(()));
-    let expected = [v(5, 2), v(3, 2), v(0, 2), v(1, 2), v(4, 2), v(2, 2), v(6, 1), v(7, 1), v(8, 1)];
+    let expected =
+        [v(5, 2), v(3, 2), v(0, 2), v(1, 2), v(4, 2), v(2, 2), v(6, 1), v(7, 1), v(8, 1)];
     assert_eq!(out, expected);
     assert_eq!(t.head.cursor, -3);
 

@@ -61,10 +61,7 @@ impl Model {
     }
 
     fn count(&self, archetype: u32) -> usize {
-        self.live
-            .values()
-            .filter(|c| self.archetype_of(c) == archetype)
-            .count()
+        self.live.values().filter(|c| self.archetype_of(c) == archetype).count()
     }
 
     fn full(&self, archetype: u32) -> bool {
@@ -92,10 +89,7 @@ impl Model {
     }
 
     fn width(&self, archetype: u32) -> usize {
-        self.sets[archetype as usize]
-            .iter()
-            .map(|t| self.sizes[t])
-            .sum()
+        self.sets[archetype as usize].iter().map(|t| self.sizes[t]).sum()
     }
 
     fn target(&self, types: BTreeSet<u32>) -> Option<u32> {
@@ -281,11 +275,7 @@ impl Model {
             let expected = self.live.contains_key(&bits) || self.reserved.contains(&bits);
             assert_eq!(store::contains(t, bits), Ok(expected));
             if !self.live.contains_key(&bits) {
-                let answer = if self.is_reserved_new(bits) {
-                    Ok(at(0, MAX))
-                } else {
-                    Err(2)
-                };
+                let answer = if self.is_reserved_new(bits) { Ok(at(0, MAX)) } else { Err(2) };
                 assert_eq!(store::get(t, bits), answer);
             }
             if expected {
@@ -646,8 +636,18 @@ fn random_sequences_agree_with_the_model() {
     }
     // every call was granted often enough to mean something
     for name in [
-        "spawn", "spawn_at", "despawn", "insert", "remove", "read", "write", "borrow or release",
-        "reserve one", "reserve many", "flush", "clear",
+        "spawn",
+        "spawn_at",
+        "despawn",
+        "insert",
+        "remove",
+        "read",
+        "write",
+        "borrow or release",
+        "reserve one",
+        "reserve many",
+        "flush",
+        "clear",
     ] {
         assert!(granted.get(name).copied().unwrap_or(0) > 50, "{name}: {granted:?}");
     }

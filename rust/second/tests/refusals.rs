@@ -278,8 +278,8 @@ fn ids_free() {
         &[
             (5, |_, a| a.bits = v(4, 2)),
             (3, |t, _| t.head.cursor = 1),
-            (2, |_, a| a.bits = v(6, 1)), // free, then beyond used
-            (2, |_, a| a.bits = v(0, 2)), // wrong generation
+            (2, |_, a| a.bits = v(6, 1)),  // free, then beyond used
+            (2, |_, a| a.bits = v(0, 2)),  // wrong generation
             (2, |_, a| a.bits = u64::MAX), // DANGLING
             (2, |t, a| {
                 a.bits = v(0, 1);
@@ -1129,9 +1129,6 @@ fn handles_refuse_generation_zero() {
     use second::handles::*;
     assert_eq!(from_bits(0), Err(5));
     assert_eq!(id(17), Err(5));
-    let none = Handle {
-        generation: 0,
-        number: 17,
-    };
+    let none = Handle { generation: 0, number: 17 };
     assert_eq!(to_bits(none), Err(5));
 }

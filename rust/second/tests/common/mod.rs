@@ -47,12 +47,7 @@ pub fn at(archetype: u32, index: u32) -> Place {
 
 /// Sets the head so that live is used less pending.
 pub fn head(t: &mut Tables, used: u64, pending: u64, cursor: i64) {
-    t.head = Head {
-        used,
-        pending,
-        live: used.wrapping_sub(pending),
-        cursor,
-    };
+    t.head = Head { used, pending, live: used.wrapping_sub(pending), cursor };
 }
 
 /// Declares archetypes given as (rows, [(type, size)]).
@@ -97,9 +92,8 @@ pub fn small() -> Tables {
 
 /// A random declaration that keeps the rules.
 pub fn random_declaration(rng: &mut Rng, most_rows: u64) -> Declaration {
-    let pool: Vec<(u32, u32)> = (0..4)
-        .map(|k| (k * 7 + rng.below(7) as u32, rng.pick(&[0, 1, 2, 4, 8])))
-        .collect();
+    let pool: Vec<(u32, u32)> =
+        (0..4).map(|k| (k * 7 + rng.below(7) as u32, rng.pick(&[0, 1, 2, 4, 8]))).collect();
     let mut d = Declaration::default();
     let sets: u64 = 1 << pool.len();
     for set in 0..sets {
@@ -107,12 +101,8 @@ pub fn random_declaration(rng: &mut Rng, most_rows: u64) -> Declaration {
             continue;
         }
         d.rows.push(rng.below(most_rows + 1) as u32);
-        let columns: Vec<_> = pool
-            .iter()
-            .enumerate()
-            .filter(|(k, _)| set >> k & 1 == 1)
-            .map(|(_, c)| *c)
-            .collect();
+        let columns: Vec<_> =
+            pool.iter().enumerate().filter(|(k, _)| set >> k & 1 == 1).map(|(_, c)| *c).collect();
         d.widths.push(columns.len() as u32);
         for (type_number, size) in columns {
             d.types.push(type_number);
@@ -124,10 +114,7 @@ pub fn random_declaration(rng: &mut Rng, most_rows: u64) -> Declaration {
 
 /// The size of a type declared anywhere.
 pub fn size_of(d: &Declaration, type_number: u32) -> Option<usize> {
-    d.types
-        .iter()
-        .position(|&t| t == type_number)
-        .map(|k| d.sizes[k] as usize)
+    d.types.iter().position(|&t| t == type_number).map(|k| d.sizes[k] as usize)
 }
 
 /// The bytes of a row of an archetype.
