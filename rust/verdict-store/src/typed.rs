@@ -165,11 +165,13 @@ impl VerdictStore {
     /// # Ok::<(), Box<dyn std::error::Error>>(())
     /// ```
     pub fn remove<T: Component>(&mut self, entity: Entity) -> Result<T, Refusal> {
-        self.of_declared_size::<T>()?;
         // A removal is granted only where the entity has the component and no column is
         // borrowed: what it takes could be read before it. Where it is refused, its own
-        // refusal is answered, not the read's.
+        // refusal is answered, not the read's, but for a size that comes before it.
         let component = self.read(entity);
+        if matches!(component, Err(Refusal::BadLength)) {
+            return component;
+        }
         self.remove_type(entity, T::TYPE)?;
         component
     }
@@ -179,8 +181,9 @@ impl VerdictStore {
     /// yet: [`NoComponent`](Refusal::NoComponent) where its number is new,
     /// [`NoSuchEntity`](Refusal::NoSuchEntity) where it was used before.
     pub fn read<T: Component>(&self, entity: Entity) -> Result<T, Refusal> {
-        self.of_declared_size::<T>()?;
-        let bytes = self.read_bytes(entity, T::TYPE)?;
+        // The size is looked up only where another refusal would be told before it.
+        let sized = |refusal| self.of_declared_size::<T>().and(Err(refusal));
+        let bytes = self.read_bytes(entity, T::TYPE).or_else(sized)?;
         T::Bytes::from_slice(bytes).map(T::from_bytes).ok_or(Refusal::BadLength)
     }
 
@@ -198,9 +201,8 @@ impl VerdictStore {
         self.write_bytes(entity, T::TYPE, component.to_bytes().as_ref())
     }
 
-    /// Refuses a type that is declared with another size. This stands before the
-    /// library's own tests: of these it would come after 12 alone, which a store that
-    /// was built never gives.
+    /// Refuses a type that is declared with another size. That comes before the
+    /// library's own refusals, but for 12, which a store that was built never gives.
     fn of_declared_size<T: Component>(&self) -> Result<(), Refusal> {
         match self.size_of_type(T::TYPE) {
             Some(size) if size as usize != T::Bytes::SIZE => Err(Refusal::BadLength),
