@@ -1,4 +1,5 @@
 // Borrow words: the top bit of 64 says that a column is held uniquely, the low 63 count its shared holders.
+#![tactic(auto)]
 ghost use Rattle.std.specs.Prelude.{◌≡◌, ◌<◌, length};
 ghost use Rattle.refusal.specs.Table.{Did, left_of};
 ghost use Rattle.borrow_word.specs.Word.{answer_of, shared_word, unique_word, released_word, unique_released_word};
@@ -7,7 +8,7 @@ ghost use Rattle.borrow_word.specs.Slice.{at_word, storing, any_held};
 use refusal::Refusal;
 
 // The word that is left, or why the call is refused.
-#[derive(Drop)]
+#[derive(Clone, Copy)]
 pub enum Borrowed {
     Granted(u64),
     Refused(Refusal),

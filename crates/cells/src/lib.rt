@@ -1,4 +1,5 @@
 // Bytes of the one lent buffer: a cell written, read, copied, and a row's cells moved. What does not fit does nothing.
+#![tactic(auto)]
 ghost use Rattle.std.specs.Prelude.{◌≡◌, ◌+◌, ◌*◌, ◌≤◌, length};
 ghost use Rattle.cells.specs.Cell.{cell, put, Copies, written, part_of, copied};
 ghost use Rattle.cells.specs.Cell.{fits, copies as copying};
@@ -7,7 +8,7 @@ ghost use Rattle.cells.specs.Line.{cell_of, next_of, past_of, run_line, told, li
 const LAST: usize = 0xffff_ffff_ffff_ffff;
 
 // A row of columns of `rows` rows each that follow each other, the first of them at `start`.
-#[derive(Drop)]
+#[derive(Clone, Copy)]
 pub struct Line {
     pub start: usize,
     pub rows: u32,

@@ -1,4 +1,5 @@
 // Columns over a declaration: rows allocated, removed and moved out, components put and found, on any input.
+#![tactic(auto)]
 ghost use Rattle.std.specs.Prelude.{◌≡◌, ◌+◌, ◌<◌, length, get_or, set};
 ghost use Rattle.refusal.specs.Table.{granted, test_of, passing, Did};
 ghost use Rattle.decl.specs.Decl.{decl_of, first_row, sizes_of, types_of};
@@ -18,28 +19,28 @@ use refusal::{Refusal, Tested};
 use row_step::{Block, Moved};
 
 // The row that the number was given, or why the call is refused.
-#[derive(Drop)]
+#[derive(Clone, Copy)]
 pub enum Allocated {
     At(Row),
     Refused(Refusal),
 }
 
 // The number that was moved into the row, or that the row was the last.
-#[derive(Drop)]
+#[derive(Clone, Copy)]
 pub enum Removed {
     Moved(Number),
     Last,
     Refused(Refusal),
 }
 
-#[derive(Drop)]
+#[derive(Clone, Copy)]
 pub enum Stored {
     Done,
     Refused(Refusal),
 }
 
 // Where a part of a lent table starts, and how long it is.
-#[derive(Drop)]
+#[derive(Clone, Copy)]
 pub enum Found {
     At(usize, usize),
     Refused(Refusal),

@@ -1,4 +1,5 @@
 // The declaration of archetypes and columns: its check, where each part stands, and type lookup.
+#![tactic(auto)]
 mod exact;
 mod quick;
 
@@ -17,7 +18,7 @@ use refusal::{Refusal, Tested};
 
 // The part of each table that is an archetype's: its first row and how many, its first column and how many, its first
 // byte, and the bytes of a row.
-#[derive(Drop)]
+#[derive(Clone, Copy)]
 pub struct Span {
     pub row: usize,
     pub rows: usize,
@@ -28,35 +29,35 @@ pub struct Span {
 }
 
 // Where an archetype's part stands, or why the call is refused.
-#[derive(Drop)]
+#[derive(Clone, Copy)]
 pub enum Located {
     At(Span),
     Refused(Refusal),
 }
 
 // What all archetypes take: their rows, and their bytes.
-#[derive(Drop)]
+#[derive(Clone, Copy)]
 pub struct Totals {
     pub rows: usize,
     pub bytes: usize,
 }
 
 // What all archetypes take, or why the call is refused.
-#[derive(Drop)]
+#[derive(Clone, Copy)]
 pub enum Measured {
     Of(Totals),
     Refused(Refusal),
 }
 
 // Where a type stands among an archetype's types.
-#[derive(Drop)]
+#[derive(Clone, Copy)]
 pub enum Column {
     At(usize),
     Missing,
 }
 
 // A column within its archetype, or why the call is refused.
-#[derive(Drop)]
+#[derive(Clone, Copy)]
 pub enum Looked {
     At(usize),
     Refused(Refusal),
@@ -152,7 +153,7 @@ fn at(xs: &[u32], i: usize) -> usize
 }
 
 // An archetype's rows, columns and bytes of a row; or it has more than there may be.
-#[derive(Drop)]
+#[derive(Clone, Copy)]
 enum Part {
     Of(usize, usize, usize),
     TooLarge,

@@ -7,14 +7,14 @@ ghost use Rattle.decl.specs.Steps.{Noted, Ordered, Marked, Settled};
 use crate::{ARCHETYPES, COLUMNS, ROWS, SIZE, Totals};
 
 // What all archetypes take, of a declaration that keeps the rules; or the walk does not tell whether it keeps them.
-#[derive(Drop)]
+#[derive(Clone, Copy)]
 pub enum Glance {
     Clear(Totals),
     Unclear,
 }
 
 // The bytes of a row of columns that plainly keep the rules.
-#[derive(Drop)]
+#[derive(Clone, Copy)]
 enum Width {
     Of(usize),
     Unclear,
@@ -22,7 +22,7 @@ enum Width {
 
 // A mark of the types of an archetype whose columns plainly keep the rules, and the bytes of a row of them. Two marks
 // tell two type sets apart.
-#[derive(Drop)]
+#[derive(Clone, Copy)]
 enum Mark {
     Of(u64, usize),
     Unclear,

@@ -6,7 +6,7 @@ use refusal::Refusal;
 use store_reads::Part;
 
 // What a component says, or why there is none.
-#[derive(Drop)]
+#[derive(Clone, Copy)]
 enum Read {
     Value(u64),
     Refused(Refusal),

@@ -1,4 +1,5 @@
 // Handles: a generation in the high half and a number in the low half of 64 bits. Numbers, rows and places.
+#![tactic(auto)]
 ghost use Rattle.std.specs.Prelude.{◌≡◌};
 ghost use Rattle.handle.specs.Bits.{MAX, bits_of, number_in, generation_in, answer_of, from_bits, new_handle};
 
@@ -8,26 +9,26 @@ use refusal::Refusal;
 pub const MAX: u32 = 0xffff_ffff;
 
 // The number of an entity.
-#[derive(Drop)]
+#[derive(Clone, Copy)]
 pub struct Number(pub u32);
 
 // A row of an archetype.
-#[derive(Drop)]
+#[derive(Clone, Copy)]
 pub struct Row(pub u32);
 
 // An entity as its user holds it. Its generation is never 0: the field is shut, and what makes a handle refuses that.
-#[derive(Drop)]
+#[derive(Clone, Copy)]
 pub struct Handle(u64);
 
 // Where an entity's components are.
-#[derive(Drop)]
+#[derive(Clone, Copy)]
 pub struct Place {
     pub archetype: u32,
     pub index: Row,
 }
 
 // A handle, or why there is none.
-#[derive(Drop)]
+#[derive(Clone, Copy)]
 pub enum Bits {
     Good(Handle),
     Refused(Refusal),

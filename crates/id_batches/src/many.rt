@@ -11,7 +11,7 @@ use id_tables::{Head, any_damaged, minus, tested};
 use refusal::{Refusal, Tested};
 
 // The numbers of an `alloc_many` that are still to be walked: those at `position` to `top` of the pending table, then the new ones from `number` to `end`.
-#[derive(Drop)]
+#[derive(Clone, Copy)]
 pub struct AllocManyState {
     pub position: u32,
     pub top: u32,
@@ -19,14 +19,14 @@ pub struct AllocManyState {
     pub end: u32,
 }
 
-#[derive(Drop)]
+#[derive(Clone, Copy)]
 pub enum AllocedMany {
     Granted(Head, AllocManyState),
     Refused(Refusal),
 }
 
 // The next number with the state after it; no more; or why there is none.
-#[derive(Drop)]
+#[derive(Clone, Copy)]
 pub enum Walked {
     Number(Number, AllocManyState),
     Done,

@@ -8,7 +8,7 @@ use crate::spans::{EntityStep, NextEntity, part_of, reserve_len, reserve_span, s
 use id_tables::{Done, Head};
 
 // Hands a reservation's handles out: the recycled numbers from `position` on, then the new ones from `number` to `end`.
-#[derive(Drop)]
+#[derive(Clone, Copy)]
 pub struct ReserveEntitiesIterator<'a> {
     pub recycled: &'a [u32],
     pub position: usize,
@@ -17,14 +17,14 @@ pub struct ReserveEntitiesIterator<'a> {
 }
 
 // What reserving n answers, with the reader of it: an empty one on a refusal.
-#[derive(Drop)]
+#[derive(Clone, Copy)]
 pub struct Reservation<'a> {
     pub done: Done,
     pub reader: ReserveEntitiesIterator<'a>,
 }
 
 // What a step answers, with the reader after it.
-#[derive(Drop)]
+#[derive(Clone, Copy)]
 pub struct NextReserved<'a> {
     pub next: NextEntity,
     pub reader: ReserveEntitiesIterator<'a>,

@@ -10,7 +10,7 @@ use id_tables::{Done, Head, any_damaged, least, minus, tested};
 use refusal::{Refusal, Tested};
 
 // The numbers of a reservation: those at `from` to `to` of the pending list, then the new ones from `number` to `end`. All are 0 on a refusal.
-#[derive(Drop)]
+#[derive(Clone, Copy)]
 pub struct Span {
     pub done: Done,
     pub from: usize,
@@ -20,7 +20,7 @@ pub struct Span {
 }
 
 // The next handle; no more; or why there is none.
-#[derive(Drop)]
+#[derive(Clone, Copy)]
 pub enum NextEntity {
     Entity(Handle),
     Done,
@@ -28,7 +28,7 @@ pub enum NextEntity {
 }
 
 // What a step answers, with the position and the new number after it.
-#[derive(Drop)]
+#[derive(Clone, Copy)]
 pub struct EntityStep {
     pub next: NextEntity,
     pub position: usize,

@@ -8,7 +8,7 @@ use id_batches::{AllocManyState, Walked};
 use refusal::Refusal;
 
 // The next number; no more; or why there is none.
-#[derive(Drop)]
+#[derive(Clone, Copy)]
 pub enum NextNumber {
     Number(Number),
     Done,
@@ -16,7 +16,7 @@ pub enum NextNumber {
 }
 
 // What a step answers, and the state after it.
-#[derive(Drop)]
+#[derive(Clone, Copy)]
 pub struct NumberStep {
     pub next: NextNumber,
     pub state: AllocManyState,

@@ -7,7 +7,7 @@ use std::num::wrapping_sub_usize;
 // How far below 0 a cursor can be.
 const DEPTH: usize = 0x8000_0000_0000_0000;
 
-#[derive(Drop)]
+#[derive(Clone, Copy)]
 pub struct Head {
     pub used: usize,
     pub pending: usize,

@@ -11,32 +11,32 @@ use crate::tables::{at, is_live};
 use handle::{Bits, Handle, MAX, Place, Row};
 use refusal::{Refusal, Tested};
 
-#[derive(Drop)]
+#[derive(Clone, Copy)]
 pub enum Contained {
     Is(bool),
     Refused(Refusal),
 }
 
-#[derive(Drop)]
+#[derive(Clone, Copy)]
 pub enum Found {
     At(Place),
     Refused(Refusal),
 }
 
-#[derive(Drop)]
+#[derive(Clone, Copy)]
 pub enum Resolved {
     Entity(Handle),
     Refused(Refusal),
 }
 
-#[derive(Drop)]
+#[derive(Clone, Copy)]
 pub enum Counted {
     Count(usize),
     Refused(Refusal),
 }
 
 // A call that answers nothing but the head that it leaves.
-#[derive(Drop)]
+#[derive(Clone, Copy)]
 pub enum Done {
     Granted(Head),
     Refused(Refusal),

@@ -1,4 +1,5 @@
 // The calls on one number: reserve it, allocate it, allocate a chosen one, free it.
+#![tactic(auto)]
 mod give_back;
 mod reserve;
 mod runs;
@@ -19,21 +20,21 @@ pub use take_chosen::alloc_at;
 pub use take_next::alloc;
 
 // The handle that is given, with the head that is left.
-#[derive(Drop)]
+#[derive(Clone, Copy)]
 pub enum Given {
     Entity(Handle, Head),
     Refused(Refusal),
 }
 
 // The place that the freed number had.
-#[derive(Drop)]
+#[derive(Clone, Copy)]
 pub enum Freed {
     From(Place, Head),
     Refused(Refusal),
 }
 
 // The chosen number was not live, or it was, at this place. The head stands first in both, so that it has one place in the answer.
-#[derive(Drop)]
+#[derive(Clone, Copy)]
 pub enum Chosen {
     Fresh(Head),
     Over(Head, Place),

@@ -1,9 +1,10 @@
 // The refusals, each with the number that document 01 gives it, and what a run of tests says.
+#![tactic(auto)]
 ghost use Rattle.std.specs.Prelude.{◌≡◌};
 ghost use Rattle.refusal.specs.Number.{number_of};
 
 // Why a call is refused. The numbers 16 to 20 are left for calls to come.
-#[derive(Drop)]
+#[derive(Clone, Copy)]
 pub enum Refusal {
     Damaged,
     NoSuchEntity,
@@ -23,7 +24,7 @@ pub enum Refusal {
 }
 
 // What a run of tests says: all of them passed, or why the first that did not refuses the call.
-#[derive(Drop)]
+#[derive(Clone, Copy)]
 pub enum Tested {
     Passed,
     Refused(Refusal),

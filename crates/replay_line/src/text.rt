@@ -3,7 +3,7 @@ ghost use Rattle.std.specs.Prelude.{◌≡◌, ◌<◌};
 ghost use Rattle.replay_line.specs.Text.{digit_of, with_digit, Reading, reading, read, read_from};
 
 // How many numbers are told, and the value of the digits since then.
-#[derive(Drop)]
+#[derive(Clone, Copy)]
 struct Told {
     count: usize,
     value: u64,

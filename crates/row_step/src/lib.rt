@@ -1,4 +1,5 @@
 // Rows of an archetype in the lent tables of row numbers, row counts and bytes. What has no place does nothing.
+#![tactic(auto)]
 ghost use Rattle.std.specs.Prelude.{◌≡◌, ◌+◌, get_or, set};
 ghost use Rattle.row_step.specs.Tables.{tables_of, moved_of, row_removed};
 
@@ -6,7 +7,7 @@ use cells::Line;
 use handle::{Number, Row};
 
 // An archetype's part of the tables: its first row among the row numbers, its rows, and its first byte.
-#[derive(Drop)]
+#[derive(Clone, Copy)]
 pub struct Block {
     pub first: usize,
     pub rows: u32,
@@ -14,7 +15,7 @@ pub struct Block {
 }
 
 // The number that a removal moved into the row.
-#[derive(Drop)]
+#[derive(Clone, Copy)]
 pub enum Moved {
     Into(Number),
     Nothing,

@@ -1,4 +1,5 @@
 // Despawn: an entity and its row leave the store.
+#![tactic(auto)]
 ghost use Rattle.std.specs.Prelude.{◌≡◌};
 ghost use Rattle.refusal.specs.Table.{Did};
 ghost use Rattle.handle.specs.Bits.{generation_in, number_in};
@@ -23,7 +24,7 @@ use refusal::{Refusal, Tested};
 use store_tables::{Entity, entity_at, is_moved_damaged};
 
 // The row that leaves: its archetype's part of the tables, and its place.
-#[derive(Drop)]
+#[derive(Clone, Copy)]
 enum Leaving {
     From(Span, Place),
     Refused(Refusal),

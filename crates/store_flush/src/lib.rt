@@ -1,4 +1,5 @@
 // Flush and clear, over the whole store.
+#![tactic(auto)]
 mod clearing;
 mod flushing;
 mod listing;

@@ -1,4 +1,5 @@
 // Insert a component: the row moves to the archetype with that type too, or a component that is held is overwritten.
+#![tactic(auto)]
 ghost use Rattle.std.specs.Prelude.{true, false, ◌≡◌, ◌<◌, length};
 ghost use Rattle.refusal.specs.Table.{Did, test_of};
 ghost use Rattle.id_tables.specs.Ids.{ids_of, place_at};
@@ -35,7 +36,7 @@ use store_tables::{Entity, entity_at};
 const ROOM: usize = 1024;
 
 // How a component comes in: over the one in a column; or the row moves to an archetype that has the type in this column.
-#[derive(Drop)]
+#[derive(Clone, Copy)]
 enum Way {
     Over(usize),
     Into(usize, u32),

@@ -7,14 +7,14 @@ ghost use Rattle.store_moves.specs.Target.{types_before, changed, target_of, tar
 
 use id_tables::{at, least};
 
-#[derive(Drop)]
+#[derive(Clone, Copy)]
 pub enum Target {
     At(usize),
     Missing,
 }
 
 // What becomes of a row's types: one is added, or one is taken.
-#[derive(Drop)]
+#[derive(Clone, Copy)]
 pub enum Change {
     Added(u32),
     Taken,

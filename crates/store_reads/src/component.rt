@@ -21,7 +21,7 @@ const MAX: u32 = 0xffff_ffff;
 
 // Where the entity of a handle is: a row that holds it, in an archetype with this part of the tables; no row yet; a
 // place that is not its own; or there is no such entity.
-#[derive(Drop)]
+#[derive(Clone, Copy)]
 pub enum Placed {
     At(Place, Span),
     Reserved,
@@ -30,14 +30,14 @@ pub enum Placed {
 }
 
 // The position of a component's borrow word, where its bytes start, and how many they are.
-#[derive(Drop)]
+#[derive(Clone, Copy)]
 pub struct Cell {
     pub word: usize,
     pub start: usize,
     pub size: usize,
 }
 
-#[derive(Drop)]
+#[derive(Clone, Copy)]
 pub enum Component {
     At(Cell),
     Refused(Refusal),

@@ -13,7 +13,7 @@ use id_tables::Head;
 use refusal::{Refusal, Tested};
 
 // Where a component's bytes start, and how many they are.
-#[derive(Drop)]
+#[derive(Clone, Copy)]
 pub enum Part {
     At(usize, usize),
     Refused(Refusal),

@@ -16,7 +16,7 @@ use id_tables::Head;
 use refusal::{Refusal, Tested};
 
 // The position of a column's word.
-#[derive(Drop)]
+#[derive(Clone, Copy)]
 pub enum Word {
     At(usize),
     Refused(Refusal),

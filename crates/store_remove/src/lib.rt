@@ -1,4 +1,5 @@
 // Remove a component: the row moves to the archetype of its other types.
+#![tactic(auto)]
 ghost use Rattle.std.specs.Prelude.{true, ◌≡◌, ◌<◌};
 ghost use Rattle.refusal.specs.Table.{Did, test_of};
 ghost use Rattle.id_tables.specs.Ids.{ids_of, place_at};
@@ -30,7 +31,7 @@ use store_tables::{Entity, entity_at};
 const ROOM: usize = 1024;
 
 // How a component goes: its column, and the archetype that the row moves to.
-#[derive(Drop)]
+#[derive(Clone, Copy)]
 enum Way {
     From(usize, u32),
     Refused(Refusal),

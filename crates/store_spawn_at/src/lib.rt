@@ -1,4 +1,5 @@
 // Spawn at: an entity of a chosen handle, in a row of its own.
+#![tactic(auto)]
 ghost use Rattle.std.specs.Prelude.{◌≡◌};
 ghost use Rattle.refusal.specs.Table.{Did};
 ghost use Rattle.handle.specs.Bits.{number_in};
@@ -24,7 +25,7 @@ use refusal::{Refusal, Tested};
 use store_tables::{Own, is_moved_damaged, is_run_wrong, own_place};
 
 // What the chosen number is: it is not live and can be taken, or its entry is damaged; it is live in a row of its own, whose archetype has this part of the tables, or no row is its own.
-#[derive(Drop)]
+#[derive(Clone, Copy)]
 enum Standing {
     Free,
     Damaged,
@@ -33,7 +34,7 @@ enum Standing {
 }
 
 // The chosen number and what it is, once every test has passed.
-#[derive(Drop)]
+#[derive(Clone, Copy)]
 enum Choice {
     Granted(Number, Standing),
     Refused(Refusal),

@@ -1,4 +1,5 @@
 // What every store call tests first, and the tests of places and entities that several calls share.
+#![tactic(auto)]
 mod run;
 
 ghost use Rattle.std.specs.Prelude.{◌≡◌, ◌-◌};
@@ -17,14 +18,14 @@ use refusal::{Refusal, Tested};
 pub use run::is_run_wrong;
 
 // A place is a row that holds the number, in an archetype with this part of the tables; or it is not.
-#[derive(Drop)]
+#[derive(Clone, Copy)]
 pub enum Own {
     At(Span),
     Damaged,
 }
 
 // An entity in a row of its own: its archetype's part of the tables, and its place.
-#[derive(Drop)]
+#[derive(Clone, Copy)]
 pub enum Entity {
     At(Span, Place),
     Refused(Refusal),
