@@ -1,0 +1,15 @@
+use Prim.Native.Nat.{◌≤◌, ◌-◌}
+use mathlib.Core.Path.{◌≡◌, refl, sym, ◌∙◌}
+use borrow.Author.Rules.{rules}
+use lib.ListN.{length, drop}
+use Rattle.cells.specs.Line.{past_of, last_place, line_told}
+use Rattle.cells.proofs.Lines.{past_more, past_all, next_fits}
+use Rattle.cells.proofs.Line.past.Goals as goal
+
+pub loop-j-preserved : goal.loop-j-preserved
+loop-j-preserved c = (next_fits _ _ c.next-line.ensures, c.loop-j.invariant.1 ∙ past_more _ _ c.loop-j-test.true _ _ c.next-line.ensures)
+
+pub returns : goal.returns
+returns c = past_all _ _ c.loop-j-test.false _ c.loop-j.invariant.0 ∙ sym c.loop-j.invariant.1
+
+-- CONV: inline answer: λ c. (search rules, refl)

@@ -1,0 +1,18 @@
+use Prim.Native.Nat.{◌≤◌, ◌-◌}
+use mathlib.Core.Path.{◌≡◌, refl}
+use native.Mathlib.Omega.{arith}
+use borrow.Author.Rules.{rules}
+use lib.ListN.{length, length-set}
+use Rattle.cells.specs.Cell.{cell}
+use Rattle.cells.proofs.Loops.{stored, stored_none, copy_more, copy_all}
+use Rattle.cells.proofs.copy_within.Goals as goal
+
+pub loop-i-init : goal.loop-i-init
+loop-i-init c = (search rules, stored_none _ _ _, refl)
+
+pub loop-i-preserved : goal.loop-i-preserved
+loop-i-preserved c =
+    (search rules, copy_more _ _ _ _ c.requires _ _ c.loop-i-test.true c.loop-i.invariant.1, simp length-set c.loop-i.invariant.2)
+
+pub returns : goal.returns
+returns c = copy_all _ _ _ _ c.requires _ _ (omega arith) c.loop-i.invariant.1

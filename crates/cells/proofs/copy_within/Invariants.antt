@@ -1,0 +1,15 @@
+-- `cells::copy_within` meets its contract. The loop's invariant: the first i bytes are stored. The measure is how many are left.
+use Prim.Native.Nat.{◌≤◌, ◌-◌}
+use mathlib.Core.Path.{◌≡◌, refl}
+use native.Mathlib.Omega.{arith}
+use borrow.Author.Rules.{rules}
+use lib.ListN.{length, length-set}
+use Rattle.cells.specs.Cell.{cell}
+use Rattle.cells.proofs.Loops.{stored, stored_none, copy_more, copy_all}
+use Rattle.cells.proofs.copy_within.Given as goal
+
+abbrev pub invariant-loop-i : goal.invariant-loop-i
+invariant-loop-i l = (l.i ≤ l.size) × (l.bytes ≡ stored l.initial.bytes l.to (cell l.initial.bytes l.from l.size) l.i) × (length l.bytes ≡ length l.initial.bytes)
+
+abbrev pub decreases-loop-i : goal.decreases-loop-i
+decreases-loop-i l = l.size - l.i

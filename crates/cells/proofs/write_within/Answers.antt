@@ -1,0 +1,17 @@
+use Prim.Native.Nat.{◌≤◌, ◌-◌}
+use mathlib.Core.Path.{◌≡◌, refl}
+use native.Mathlib.Omega.{arith}
+use borrow.Author.Rules.{rules}
+use lib.ListN.{length, length-set}
+use Rattle.cells.proofs.Loops.{stored, stored_none, stored_more, stored_all}
+use Rattle.cells.proofs.write_within.Goals as goal
+
+pub loop-i-init : goal.loop-i-init
+loop-i-init c = (search rules, stored_none _ _ _, refl)
+
+pub loop-i-preserved : goal.loop-i-preserved
+loop-i-preserved c =
+    (search rules, stored_more _ _ _ _ _ c.requires c.loop-i-test.true c.loop-i.invariant.1, simp length-set c.loop-i.invariant.2)
+
+pub returns : goal.returns
+returns c = stored_all _ _ _ _ _ (omega arith) c.loop-i.invariant.1

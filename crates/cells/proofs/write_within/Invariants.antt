@@ -1,0 +1,14 @@
+-- `cells::write_within` meets its contract. The loop's invariant: the first i bytes are stored. The measure is how many are left.
+use Prim.Native.Nat.{◌≤◌, ◌-◌}
+use mathlib.Core.Path.{◌≡◌, refl}
+use native.Mathlib.Omega.{arith}
+use borrow.Author.Rules.{rules}
+use lib.ListN.{length, length-set}
+use Rattle.cells.proofs.Loops.{stored, stored_none, stored_more, stored_all}
+use Rattle.cells.proofs.write_within.Given as goal
+
+abbrev pub invariant-loop-i : goal.invariant-loop-i
+invariant-loop-i l = (l.i ≤ length l.value) × (l.bytes ≡ stored l.initial.bytes l.at l.value l.i) × (length l.bytes ≡ length l.initial.bytes)
+
+abbrev pub decreases-loop-i : goal.decreases-loop-i
+decreases-loop-i l = length l.value - l.i

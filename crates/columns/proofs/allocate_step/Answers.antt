@@ -1,0 +1,13 @@
+-- `columns::allocate_step` meets its contract: the number is stored in the archetype's first unused row.
+use mathlib.Core.Path.{refl}
+use native.Mathlib.Omega.{arith}
+use borrow.Author.Rules.{rules}
+use Rattle.columns.proofs.Places.{first_told}
+use Rattle.columns.proofs.allocate_step.Goals as goal
+
+pub overflow_add-counts : goal.overflow_add-counts
+overflow_add-counts c = omega (arith, c.requires, c.type_inv.rows c.args.archetype)
+
+pub returns : goal.returns
+returns c =
+    (refl, rw (first_told _ _ c.requires.kept (omega (arith, c.requires)) _ c.span-span.ensures) at c.set_number.ensures, refl)

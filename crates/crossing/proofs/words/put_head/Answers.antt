@@ -1,0 +1,7 @@
+-- `crossing::put_head` meets its contract.
+use borrow.Author.Rules.{rules}
+use Rattle.crossing.proofs.Heads.{written}
+use Rattle.crossing.proofs.words.put_head.Goals as goal
+
+pub returns : goal.returns
+returns c = written c.args.head _ (record { sfits = c.type_inv.head.1.1.0.1 }) c.unsigned-cursor.ensures

@@ -1,0 +1,7 @@
+-- `exports_columns::verdict_columns_get` meets its contract.
+use borrow.Author.Rules.{rules}
+use Rattle.crossing.proofs.Telling.{retold}
+use Rattle.exports_columns.proofs.verdict_columns_get.Goals as goal
+
+pub returns : goal.returns
+returns c = retold c.get-answer.ensures c.part.ensures

@@ -1,0 +1,7 @@
+-- `exports_columns::verdict_columns_put` meets its contract.
+use borrow.Author.Rules.{rules}
+use Rattle.crossing.proofs.Telling.{passed}
+use Rattle.exports_columns.proofs.verdict_columns_put.Goals as goal
+
+pub returns : goal.returns
+returns c = passed c.put-answer.ensures c.stored.ensures

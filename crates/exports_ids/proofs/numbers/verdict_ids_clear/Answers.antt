@@ -1,0 +1,7 @@
+-- `exports_ids::verdict_ids_clear` meets its contract.
+use borrow.Author.Rules.{rules}
+use Rattle.crossing.proofs.Telling.{passed_ids}
+use Rattle.exports_ids.proofs.numbers.verdict_ids_clear.Goals as goal
+
+pub returns : goal.returns
+returns c = rw (← c.head_of.ensures) (passed_ids c.clear-answer.ensures c.done.ensures.0 (rw (← c.head_of.ensures) at c.done.ensures.1))

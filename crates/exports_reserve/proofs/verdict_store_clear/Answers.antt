@@ -1,0 +1,7 @@
+-- `exports_reserve::verdict_store_clear` meets its contract.
+use borrow.Author.Rules.{rules}
+use Rattle.exports_store.proofs.Store.{passed_store}
+use Rattle.exports_reserve.proofs.verdict_store_clear.Goals as goal
+
+pub returns : goal.returns
+returns c = rw (← c.head_of.ensures) (passed_store c.clear-answer.ensures c.done.ensures.0 (rw (← c.head_of.ensures) at c.done.ensures.1))

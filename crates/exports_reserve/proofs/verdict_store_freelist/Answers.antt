@@ -1,0 +1,7 @@
+-- `exports_reserve::verdict_store_freelist` meets its contract.
+use borrow.Author.Rules.{rules}
+use Rattle.crossing.proofs.Telling.{crossed}
+use Rattle.exports_reserve.proofs.verdict_store_freelist.Goals as goal
+
+pub returns : goal.returns
+returns c = rw (← c.head_of.ensures) (crossed c.freelist-answer.ensures c.counted.ensures)

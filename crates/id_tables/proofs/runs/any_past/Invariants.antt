@@ -1,0 +1,12 @@
+-- `id_tables::runs::any_past` meets its contract. The loop's invariant: what was found so far, or what is left, decides.
+use Rattle.std.proofs.Common.{◌-◌, length, drop, ⊎_elim, rules, le-leb}
+use borrow.Author.Tests.{lt-leb}
+use Rattle.id_tables.specs.Runs.{any_past}
+use Rattle.id_tables.proofs.Scanning.{Sofar, none_yet, hit, miss, all_seen, past_cons, past_end}
+use Rattle.id_tables.proofs.runs.any_past.Given as goal
+
+abbrev pub invariant-loop-i : goal.invariant-loop-i
+invariant-loop-i l = Sofar (any_past l.limit l.numbers) l.past (any_past l.limit (drop l.i l.numbers))
+
+abbrev pub decreases-loop-i : goal.decreases-loop-i
+decreases-loop-i l = length l.numbers - l.i

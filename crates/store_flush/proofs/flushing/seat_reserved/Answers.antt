@@ -1,0 +1,22 @@
+-- `store_flush::flushing::seat_reserved` meets its contract: each return is a way through its rule.
+use mathlib.Core.Path.{sym, ◌∙◌}
+use borrow.Author.Rules.{rules}
+use Rattle.refusal.specs.Laws.{refuse}
+use Rattle.store_flush.proofs.Ways.{seat_held, seat_full, list_needs, seat_refused, seat_done}
+use Rattle.store_flush.proofs.flushing.seat_reserved.Goals as goal
+
+pub returns-then-any_held : goal.returns-then-any_held
+returns-then-any_held c = refuse (seat_held _ (sym c.any_held.ensures ∙ c.if-any_held.true))
+
+pub returns-then-at-count : goal.returns-then-at-count
+returns-then-at-count c = refuse (seat_full _ (sym c.any_held.ensures ∙ c.if-any_held.false) _ _ _ _ c.at-count.ensures c.fresh.ensures c.free.ensures c.at.ensures c.if-at-count.true)
+
+pub list_reserved-requires : goal.list_reserved-requires
+list_reserved-requires c = let e = list_needs _ (sym c.any_held.ensures ∙ c.if-any_held.false) _ _ _ _ c.at-count.ensures c.fresh.ensures c.free.ensures c.at.ensures c.requires c.if-at-count.false in record { cursor_bound = e.0; cursor_in_bounds = e.1 }
+
+pub returns-in-Refused : goal.returns-in-Refused
+returns-in-Refused c = seat_refused _ (sym c.any_held.ensures ∙ c.if-any_held.false) _ _ _ _ c.at-count.ensures c.fresh.ensures c.free.ensures c.at.ensures c.requires c.if-at-count.false _ _ _ _ c.flush.ensures _ c.in-Refused.is
+
+pub returns-in-Granted : goal.returns-in-Granted
+returns-in-Granted c =
+    seat_done _ (sym c.any_held.ensures ∙ c.if-any_held.false) _ _ _ _ c.at-count.ensures c.fresh.ensures c.free.ensures c.at.ensures c.requires c.if-at-count.false _ _ _ _ c.flush.ensures _ c.in-Granted.is _ _ c.list_reserved.ensures c.put.ensures

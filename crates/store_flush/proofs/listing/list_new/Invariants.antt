@@ -1,0 +1,15 @@
+-- `store_flush::listing::list_new` meets its contract. The loop's invariant: what is left to write, of a table of the same length.
+use Prim.Native.Nat.{◌≤◌, ◌-◌}
+use mathlib.Core.Path.{◌≡◌, refl}
+use borrow.Author.Rules.{rules}
+use lib.ListN.{length}
+use Rattle.id_tables.specs.Runs.{up_from}
+use Rattle.id_batches.proofs.Setting.{Rest, rest_all, up_in, up_here, up_end}
+use Rattle.store_flush.proofs.Runs.{list_next, list_end}
+use Rattle.store_flush.proofs.listing.list_new.Given as goal
+
+abbrev pub invariant-loop-i : goal.invariant-loop-i
+invariant-loop-i l = (l.i ≤ l.count) × (Rest l.initial.numbers l.numbers (up_from l.place (length (up_from l.from l.count))) (up_from l.from l.count) l.i) × (length l.numbers ≡ length l.initial.numbers)
+
+abbrev pub decreases-loop-i : goal.decreases-loop-i
+decreases-loop-i l = l.count - l.i

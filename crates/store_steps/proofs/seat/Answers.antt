@@ -1,0 +1,8 @@
+-- `store_steps::seat` meets its contract: the block and the sizes are the archetype's.
+use borrow.Author.Rules.{rules}
+use Rattle.store_steps.proofs.seat.Goals as goal
+
+pub returns : goal.returns
+returns c = rw (← c.Block-of.ensures, ← c.part_of-own.ensures) c.seat_in.ensures
+
+-- CONV: not mapped: Block-of.ensures

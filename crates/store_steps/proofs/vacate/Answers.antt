@@ -1,0 +1,8 @@
+-- `store_steps::vacate` meets its contract: the block and the sizes are the archetype's.
+use borrow.Author.Rules.{rules}
+use Rattle.store_steps.proofs.vacate.Goals as goal
+
+pub returns : goal.returns
+returns c = rw (← c.Block-of.ensures, ← c.part_of-own.ensures) c.vacate_in.ensures
+
+-- CONV: not mapped: Block-of.ensures
