@@ -186,7 +186,7 @@ module _ (d : Decl) (w : Rows) (a r : ℕ) where
         let s = same_value e in
         omega (
           arith,
-          block_ends (sizes_of d a) (base_of d a) (rows_of d a) r j (omega (arith, g.row-in, g.ready.counts_in a)) h,
+          block_ends (sizes_of d a) (base_of d a) (rows_of d a) r j (omega (arith, g.row_in, g.ready.counts_in a)) h,
           line_cell d a r j (omega arith),
           block_in_lem d a g.archetype_in,
           g.ready.tabled.bytes_long,

@@ -8,26 +8,30 @@ use Rattle.columns.proofs.Places.{columns_fit, types_fit}
 use Rattle.columns.proofs.Steps.{cell_of_told}
 use Rattle.columns.proofs.cell_of.Goals as goal
 
-inside : (c : tie.After-struct-known)
-    → (c.span-span.result.column + c.span-span.result.columns ≤ length c.args.types.now)
-    × (c.span-span.result.column + c.span-span.result.columns ≤ length c.args.sizes.now)
-inside c =
-    (types_fit _ _ c.requires.kept (omega (arith, c.requires)) _ c.span-span.ensures, columns_fit _ _ c.requires.kept (omega (arith, c.requires)) _ c.span-span.ensures)
-
 pub overflow_add-end : goal.overflow_add-end
-overflow_add-end c = omega (arith, inside c)
+overflow_add-end c =
+    let inside : (c.span-span.result.column + c.span-span.result.columns ≤ length c.args.types.now) × (c.span-span.result.column + c.span-span.result.columns ≤ length c.args.sizes.now) = (types_fit _ _ c.requires.kept (omega (arith, c.requires)) _ c.span-span.ensures, columns_fit _ _ c.requires.kept (omega (arith, c.requires)) _ c.span-span.ensures) in
+    omega (arith, inside)
 
 pub offset_bounds-types-at : goal.offset_bounds-types-at
-offset_bounds-types-at c = omega (arith, inside c.before)
+offset_bounds-types-at c =
+    let inside : (c.span-span.result.column + c.span-span.result.columns ≤ length c.args.types.now) × (c.span-span.result.column + c.span-span.result.columns ≤ length c.args.sizes.now) = (types_fit _ _ c.requires.kept (omega (arith, c.requires)) _ c.span-span.ensures, columns_fit _ _ c.requires.kept (omega (arith, c.requires)) _ c.span-span.ensures) in
+    omega (arith, inside)
 
 pub slice_bounds-find_cell-end : goal.slice_bounds-find_cell-end
-slice_bounds-find_cell-end c = omega (arith, inside c.before)
+slice_bounds-find_cell-end c =
+    let inside : (c.span-span.result.column + c.span-span.result.columns ≤ length c.args.types.now) × (c.span-span.result.column + c.span-span.result.columns ≤ length c.args.sizes.now) = (types_fit _ _ c.requires.kept (omega (arith, c.requires)) _ c.span-span.ensures, columns_fit _ _ c.requires.kept (omega (arith, c.requires)) _ c.span-span.ensures) in
+    omega (arith, inside)
 
 pub offset_bounds-sizes-at : goal.offset_bounds-sizes-at
-offset_bounds-sizes-at c = omega (arith, inside c.before.before)
+offset_bounds-sizes-at c =
+    let inside : (c.span-span.result.column + c.span-span.result.columns ≤ length c.args.types.now) × (c.span-span.result.column + c.span-span.result.columns ≤ length c.args.sizes.now) = (types_fit _ _ c.requires.kept (omega (arith, c.requires)) _ c.span-span.ensures, columns_fit _ _ c.requires.kept (omega (arith, c.requires)) _ c.span-span.ensures) in
+    omega (arith, inside)
 
 pub slice_bounds-find_cell-end-2 : goal.slice_bounds-find_cell-end-2
-slice_bounds-find_cell-end-2 c = omega (arith, inside c.before.before)
+slice_bounds-find_cell-end-2 c =
+    let inside : (c.span-span.result.column + c.span-span.result.columns ≤ length c.args.types.now) × (c.span-span.result.column + c.span-span.result.columns ≤ length c.args.sizes.now) = (types_fit _ _ c.requires.kept (omega (arith, c.requires)) _ c.span-span.ensures, columns_fit _ _ c.requires.kept (omega (arith, c.requires)) _ c.span-span.ensures) in
+    omega (arith, inside)
 
 pub returns : goal.returns
 returns c = cell_of_told _ _ _ _ c.requires.kept c.requires.archetype_in_bounds.0 c.requires.archetype_in_bounds.1 _ c.span-span.ensures c.find_cell.ensures

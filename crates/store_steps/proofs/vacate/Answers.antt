@@ -3,6 +3,6 @@ use borrow.Author.Rules.{rules}
 use Rattle.store_steps.proofs.vacate.Goals as goal
 
 pub returns : goal.returns
-returns c = rw (← c.Block-of.ensures, ← c.part_of-own.ensures) c.vacate_in.ensures
+returns c = rw (← c.block_of-block.ensures, ← c.part_of-own.ensures) c.vacate_in.ensures
 
 -- CONV: not mapped: Block-of.ensures

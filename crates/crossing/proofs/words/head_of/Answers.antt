@@ -4,4 +4,4 @@ use Rattle.crossing.proofs.Heads.{taken}
 use Rattle.crossing.proofs.words.head_of.Goals as goal
 
 pub returns : goal.returns
-returns c = taken _ _ (record { sfits = c.signed.type-inv }) c.signed.ensures
+returns c = taken _ _ (record { sfits = c.signed.type_inv }) c.signed.ensures

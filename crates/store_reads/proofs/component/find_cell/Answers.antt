@@ -7,40 +7,53 @@ use lib.ListN.{length}
 use Rattle.store_reads.proofs.Cells.{types_fit, sizes_fit, cell_missing, column_within_span, cell_found}
 use Rattle.store_reads.proofs.component.find_cell.Goals as goal
 
-inside : (c : tie.After-struct-known)
-    → (c.args.span.column + c.args.span.columns ≤ length c.args.types.now)
-    × (c.args.span.column + c.args.span.columns ≤ length c.args.sizes.now)
-inside c = (types_fit _ _ c.requires.kept _ c.requires.span_value.0, sizes_fit _ _ c.requires.kept _ c.requires.span_value.0)
-
-within : (c : tie.After-known-told) → c.in-At.j < c.args.span.columns
-within c = column_within_span _ _ c.requires.kept _ c.requires.span_value.0 _ _ c.find.ensures _ c.in-At.is
-
 pub overflow_add-end : goal.overflow_add-end
-overflow_add-end c = omega (arith, inside c)
+overflow_add-end c =
+    let inside : (c.args.span.column + c.args.span.columns ≤ length c.args.types.now) × (c.args.span.column + c.args.span.columns ≤ length c.args.sizes.now) = (types_fit _ _ c.requires.kept _ c.requires.span_value.0, sizes_fit _ _ c.requires.kept _ c.requires.span_value.0) in
+    omega (arith, inside)
 
 pub offset_bounds-types-at : goal.offset_bounds-types-at
-offset_bounds-types-at c = omega (arith, inside c)
+offset_bounds-types-at c =
+    let inside : (c.args.span.column + c.args.span.columns ≤ length c.args.types.now) × (c.args.span.column + c.args.span.columns ≤ length c.args.sizes.now) = (types_fit _ _ c.requires.kept _ c.requires.span_value.0, sizes_fit _ _ c.requires.kept _ c.requires.span_value.0) in
+    omega (arith, inside)
 
 pub slice_bounds-find-end : goal.slice_bounds-find-end
-slice_bounds-find-end c = omega (arith, inside c)
+slice_bounds-find-end c =
+    let inside : (c.args.span.column + c.args.span.columns ≤ length c.args.types.now) × (c.args.span.column + c.args.span.columns ≤ length c.args.sizes.now) = (types_fit _ _ c.requires.kept _ c.requires.span_value.0, sizes_fit _ _ c.requires.kept _ c.requires.span_value.0) in
+    omega (arith, inside)
 
 pub returns-in_default : goal.returns-in_default
 returns-in_default c = cell_missing _ _ c.requires.kept _ c.requires.span_value.0 _ _ c.find.ensures _ c.in_default.is
 
 pub overflow_add-word : goal.overflow_add-word
-overflow_add-word c = omega (arith, inside c.before.before.before.before.before, within c)
+overflow_add-word c =
+    let inside : (c.args.span.column + c.args.span.columns ≤ length c.args.types.now) × (c.args.span.column + c.args.span.columns ≤ length c.args.sizes.now) = (types_fit _ _ c.requires.kept _ c.requires.span_value.0, sizes_fit _ _ c.requires.kept _ c.requires.span_value.0) in
+    let within : c.in-At.j < c.args.span.columns = column_within_span _ _ c.requires.kept _ c.requires.span_value.0 _ _ c.find.ensures _ c.in-At.is in
+    omega (arith, inside, within)
 
 pub offset_bounds-sizes-word : goal.offset_bounds-sizes-word
-offset_bounds-sizes-word c = omega (arith, inside c.before.before.before.before.before, within c)
+offset_bounds-sizes-word c =
+    let inside : (c.args.span.column + c.args.span.columns ≤ length c.args.types.now) × (c.args.span.column + c.args.span.columns ≤ length c.args.sizes.now) = (types_fit _ _ c.requires.kept _ c.requires.span_value.0, sizes_fit _ _ c.requires.kept _ c.requires.span_value.0) in
+    let within : c.in-At.j < c.args.span.columns = column_within_span _ _ c.requires.kept _ c.requires.span_value.0 _ _ c.find.ensures _ c.in-At.is in
+    omega (arith, inside, within)
 
 pub bounds-sizes-word : goal.bounds-sizes-word
-bounds-sizes-word c = omega (arith, inside c.before.before.before.before.before.before, within c.before)
+bounds-sizes-word c =
+    let inside : (c.args.span.column + c.args.span.columns ≤ length c.args.types.now) × (c.args.span.column + c.args.span.columns ≤ length c.args.sizes.now) = (types_fit _ _ c.requires.kept _ c.requires.span_value.0, sizes_fit _ _ c.requires.kept _ c.requires.span_value.0) in
+    let within : c.in-At.j < c.args.span.columns = column_within_span _ _ c.requires.kept _ c.requires.span_value.0 _ _ c.find.ensures _ c.in-At.is in
+    omega (arith, inside, within)
 
 pub offset_bounds-sizes-at : goal.offset_bounds-sizes-at
-offset_bounds-sizes-at c = omega (arith, inside c.before.before.before.before.before.before.before.before.before, within c.before.before.before.before)
+offset_bounds-sizes-at c =
+    let inside : (c.args.span.column + c.args.span.columns ≤ length c.args.types.now) × (c.args.span.column + c.args.span.columns ≤ length c.args.sizes.now) = (types_fit _ _ c.requires.kept _ c.requires.span_value.0, sizes_fit _ _ c.requires.kept _ c.requires.span_value.0) in
+    let within : c.in-At.j < c.args.span.columns = column_within_span _ _ c.requires.kept _ c.requires.span_value.0 _ _ c.find.ensures _ c.in-At.is in
+    omega (arith, inside, within)
 
 pub slice_bounds-past-end : goal.slice_bounds-past-end
-slice_bounds-past-end c = omega (arith, inside c.before.before.before.before.before.before.before.before.before, within c.before.before.before.before)
+slice_bounds-past-end c =
+    let inside : (c.args.span.column + c.args.span.columns ≤ length c.args.types.now) × (c.args.span.column + c.args.span.columns ≤ length c.args.sizes.now) = (types_fit _ _ c.requires.kept _ c.requires.span_value.0, sizes_fit _ _ c.requires.kept _ c.requires.span_value.0) in
+    let within : c.in-At.j < c.args.span.columns = column_within_span _ _ c.requires.kept _ c.requires.span_value.0 _ _ c.find.ensures _ c.in-At.is in
+    omega (arith, inside, within)
 
 pub overflow_cast-result : goal.overflow_cast-result
 overflow_cast-result c = omega (arith, c.type_inv.sizes (c.args.span.column + c.in-At.j))
