@@ -7,7 +7,7 @@ use Rattle.store_insert.proofs.Coming.{way_said, stays, over_there, over_sized, 
 use Rattle.store_insert.proofs.insert_at.Goals as goal
 
 pub way_for-requires : goal.way_for-requires
-way_for-requires c = (c.requires.entered, c.requires.span_value)
+way_for-requires c = record { entered = c.requires.entered; span_value = c.requires.span_value }
 
 pub overwrite-requires : goal.overwrite-requires
 overwrite-requires c = record { kept = c.requires.entered.rows.tabled.kept; span_value = over_there _ c.requires.entered _ _ c.requires.span_value.0 _ c.requires.span_value.1 c.requires.number_value.0 _ _ c.requires.number_value.1 _ (way_said _ _ c.way_for.ensures c.in-Over.is); kind_value = over_sized _ c.requires.entered _ _ c.requires.span_value.0 _ c.requires.span_value.1 c.requires.number_value.0 _ _ c.requires.number_value.1 _ (way_said _ _ c.way_for.ensures c.in-Over.is) }

@@ -19,7 +19,7 @@ unfolding removing
 returns-in_default-from_bits c = refuse (on_zero _ _ _ _ _ (told _ _ c.tested.ensures c.in_default.is) c.from_bits.ensures c.in_default-from_bits.is)
 
 pub remove_at-requires : goal.remove_at-requires
-remove_at-requires c = let e = (entered _ _ (told _ _ c.tested.ensures c.in_default.is), asks _ (entered _ _ (told _ _ c.tested.ensures c.in_default.is)) _ _ _ _ (entity_said _ _ c.entity_at.ensures c.in-At.is) _ c.id.ensures) in record { entered = e.0; span_value = e.1.0; number_value = e.1.1 }
+remove_at-requires c = record { entered = entered _ _ (told _ _ c.tested.ensures c.in_default.is); span_value = (asks _ (entered _ _ (told _ _ c.tested.ensures c.in_default.is)) _ _ _ _ (entity_said _ _ c.entity_at.ensures c.in-At.is) _ c.id.ensures).0; number_value = (asks _ (entered _ _ (told _ _ c.tested.ensures c.in_default.is)) _ _ _ _ (entity_said _ _ c.entity_at.ensures c.in-At.is) _ c.id.ensures).1 }
 
 pub returns-in-Refused-entity_at : goal.returns-in-Refused-entity_at
 unfolding removing

@@ -7,7 +7,7 @@ use Rattle.store_remove.proofs.Leaving.{way_said, stays, may_move, from_there, h
 use Rattle.store_remove.proofs.remove_at.Goals as goal
 
 pub way_for-requires : goal.way_for-requires
-way_for-requires c = (c.requires.entered, c.requires.span_value)
+way_for-requires c = record { entered = c.requires.entered; span_value = c.requires.span_value }
 
 pub take_out-requires : goal.take_out-requires
 take_out-requires c = record { moving = may_move _ c.requires.entered _ _ c.requires.span_value.0 _ c.requires.span_value.1 c.requires.number_value _ _ _ (way_said _ _ c.way_for.ensures c.in-From.is); span_value = from_there _ c.requires.entered _ _ c.requires.span_value.0 _ c.requires.span_value.1 c.requires.number_value _ _ _ (way_said _ _ c.way_for.ensures c.in-From.is) }
