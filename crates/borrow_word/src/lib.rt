@@ -1,5 +1,6 @@
 // Borrow words: the top bit of 64 says that a column is held uniquely, the low 63 count its shared holders.
 #![tactic(auto)]
+
 ghost use Rattle.std.specs.Prelude.{◌≡◌, ◌<◌, length};
 ghost use Rattle.refusal.specs.Table.{Did, left_of};
 ghost use Rattle.borrow_word.specs.Word.{answer_of, shared_word, unique_word, released_word, unique_released_word};

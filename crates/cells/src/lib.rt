@@ -1,5 +1,6 @@
 // Bytes of the one lent buffer: a cell written, read, copied, and a row's cells moved. What does not fit does nothing.
 #![tactic(auto)]
+
 ghost use Rattle.std.specs.Prelude.{◌≡◌, ◌+◌, ◌*◌, ◌≤◌, length};
 ghost use Rattle.cells.specs.Cell.{cell, put, Copies, written, part_of, copied};
 ghost use Rattle.cells.specs.Cell.{fits, copies as copying};

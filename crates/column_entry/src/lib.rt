@@ -1,5 +1,6 @@
 // What the tables that a column call is lent must be, on any input.
 #![tactic(auto)]
+
 ghost use Rattle.std.specs.Prelude.{◌≡◌, ◌≤◌, min, length, get_or};
 ghost use Rattle.refusal.specs.Table.{test_of, passing};
 ghost use Rattle.decl.specs.Lists.{any_below};

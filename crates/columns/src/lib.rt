@@ -1,5 +1,6 @@
 // Columns over a declaration: rows allocated, removed and moved out, components put and found, on any input.
 #![tactic(auto)]
+
 ghost use Rattle.std.specs.Prelude.{◌≡◌, ◌+◌, ◌<◌, length, get_or, set};
 ghost use Rattle.refusal.specs.Table.{granted, test_of, passing, Did};
 ghost use Rattle.decl.specs.Decl.{decl_of, first_row, sizes_of, types_of};

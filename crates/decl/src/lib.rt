@@ -1,5 +1,6 @@
 // The declaration of archetypes and columns: its check, where each part stands, and type lookup.
 #![tactic(auto)]
+
 mod exact;
 mod quick;
 

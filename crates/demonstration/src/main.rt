@@ -1,5 +1,6 @@
 // A superoptimiser's cache of candidates: they are found, proved, timed out, given up and announced, while rows move and fall into holes.
 #![tactic(auto)]
+
 mod cache;
 mod calls;
 mod say;

@@ -1,5 +1,6 @@
 // What another language links of columns. Every call answers the refusal's number, 0 where it is granted.
 #![tactic(auto)]
+
 ghost use Rattle.std.specs.Prelude.{◌≡◌};
 ghost use Rattle.decl.specs.Decl.{decl_of};
 ghost use Rattle.decl.specs.Lookup.{looked_up, looked_of};

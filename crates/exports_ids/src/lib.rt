@@ -1,5 +1,6 @@
 // What another language links of handles, borrow words and ids. Every call answers the refusal's number, 0 where it is granted; a head is four numbers: used, pending, the cursor in two's complement, live.
 #![tactic(auto)]
+
 mod batches;
 mod numbers;
 mod walks;

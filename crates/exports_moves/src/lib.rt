@@ -1,5 +1,6 @@
 // What another language links of the store's spawn at, insert, remove and flush. Every call answers the refusal's number, 0 where it is granted; a head is four numbers: used, pending, the cursor in two's complement, live.
 #![tactic(auto)]
+
 ghost use Rattle.store_spawn_at.specs.SpawnAt.{spawning_at};
 ghost use Rattle.store_insert.specs.Insert.{inserting};
 ghost use Rattle.store_remove.specs.Remove.{removing};

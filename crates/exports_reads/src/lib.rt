@@ -1,5 +1,6 @@
 // What another language links of the store's reads, writes, borrows and lookups. Every call answers the refusal's number, 0 where it is granted; a head is four numbers: used, pending, the cursor in two's complement, live.
 #![tactic(auto)]
+
 ghost use Rattle.borrow_word.specs.Word.{shared_word, unique_word, released_word, unique_released_word};
 ghost use Rattle.store_reads.specs.Lookup.{getting, containing, resolving, counting};
 ghost use Rattle.store_reads.specs.Read.{reading, part_of};

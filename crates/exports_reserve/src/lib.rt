@@ -1,5 +1,6 @@
 // What another language links of the store's calls that look at no row: reserve one, reserve n, the free list; and clear. Every call answers the refusal's number, 0 where it is granted; a head is four numbers: used, pending, the cursor in two's complement, live.
 #![tactic(auto)]
+
 ghost use Rattle.store_reserve.specs.Reserve.{reserving, reserving_many, listing_free};
 ghost use Rattle.store_flush.specs.Clear.{clearing};
 ghost use Rattle.crossing.specs.Answers.{Crossed, Passed, number_four};

@@ -1,5 +1,6 @@
 // What another language links of the store's spawn and despawn. Every call answers the refusal's number, 0 where it is granted; a head is four numbers: used, pending, the cursor in two's complement, live.
 #![tactic(auto)]
+
 ghost use Rattle.store_spawn.specs.Spawn.{spawning};
 ghost use Rattle.store_despawn.specs.Despawn.{despawning};
 ghost use Rattle.crossing.specs.Answers.{Crossed, Passed, number_four};

@@ -1,5 +1,6 @@
 // Handles: a generation in the high half and a number in the low half of 64 bits. Numbers, rows and places.
 #![tactic(auto)]
+
 ghost use Rattle.std.specs.Prelude.{◌≡◌};
 ghost use Rattle.handle.specs.Bits.{MAX, bits_of, number_in, generation_in, answer_of, from_bits, new_handle};
 

@@ -1,5 +1,6 @@
 // The calls on n numbers: reserve, allocate many and walk them, flush, list the free ones.
 #![tactic(auto)]
+
 mod flushing;
 mod listing;
 mod loops;

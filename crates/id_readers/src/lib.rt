@@ -1,5 +1,6 @@
 // The two walks in the Rust's own forms: a reader that holds the lent part of the pending list, and a state that is lent and advances in place.
 #![tactic(auto)]
+
 mod reader;
 mod spans;
 mod state;

@@ -1,5 +1,6 @@
 // The ground of the id layer: the head, the four lent tables, what every call tests first, and the calls that look or set without handing a number out.
 #![tactic(auto)]
+
 mod entry;
 mod head;
 mod lookup;

@@ -1,5 +1,6 @@
 // The calls on one number: reserve it, allocate it, allocate a chosen one, free it.
 #![tactic(auto)]
+
 mod give_back;
 mod reserve;
 mod runs;

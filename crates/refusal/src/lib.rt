@@ -1,5 +1,6 @@
 // The refusals, each with the number that document 01 gives it, and what a run of tests says.
 #![tactic(auto)]
+
 ghost use Rattle.std.specs.Prelude.{◌≡◌};
 ghost use Rattle.refusal.specs.Number.{number_of};
 

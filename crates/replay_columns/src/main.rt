@@ -1,5 +1,6 @@
 // Plays the fixed list of column calls, and prints of each call the refusal's number, what it answers, and a digest of what it leaves.
 #![tactic(auto)]
+
 mod calls;
 mod tables;
 

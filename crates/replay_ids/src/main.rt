@@ -1,5 +1,6 @@
 // Plays the fixed list of calls on handles, borrow words and ids, and prints of each call the refusal's number, what it answers, and a digest of what it leaves.
 #![tactic(auto)]
+
 mod batches;
 mod lookups;
 mod numbers;

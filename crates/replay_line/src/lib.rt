@@ -1,5 +1,6 @@
 // The fixed lists: numbers out of text, lines out of numbers, tables filled from a line, and a digest of what a call leaves.
 #![tactic(auto)]
+
 mod digests;
 mod fills;
 mod lines;

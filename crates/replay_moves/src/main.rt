@@ -1,5 +1,6 @@
 // Plays the fixed list of the store's calls that change components or the whole store, and prints of each call the refusal's number, what it answers, and a digest of what it leaves.
 #![tactic(auto)]
+
 mod components;
 mod tables;
 mod whole;

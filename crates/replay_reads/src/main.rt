@@ -1,5 +1,6 @@
 // Plays the fixed list of the store's calls that leave every row as it is, and prints of each call the refusal's number, what it answers, and a digest of what it leaves.
 #![tactic(auto)]
+
 mod holds;
 mod lookups;
 mod reserves;

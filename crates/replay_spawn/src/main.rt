@@ -1,5 +1,6 @@
 // Plays the fixed list of the store's calls that give an entity its row or take it, and prints of each call the refusal's number, what it answers, and a digest of what it leaves.
 #![tactic(auto)]
+
 mod entities;
 mod tables;
 

@@ -1,5 +1,6 @@
 // Rows of an archetype in the lent tables of row numbers, row counts and bytes. What has no place does nothing.
 #![tactic(auto)]
+
 ghost use Rattle.std.specs.Prelude.{◌≡◌, ◌+◌, get_or, set};
 ghost use Rattle.row_step.specs.Tables.{tables_of, moved_of, row_removed};
 

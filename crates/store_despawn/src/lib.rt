@@ -1,5 +1,6 @@
 // Despawn: an entity and its row leave the store.
 #![tactic(auto)]
+
 ghost use Rattle.std.specs.Prelude.{◌≡◌};
 ghost use Rattle.refusal.specs.Table.{Did};
 ghost use Rattle.handle.specs.Bits.{generation_in, number_in};

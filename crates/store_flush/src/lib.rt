@@ -1,5 +1,6 @@
 // Flush and clear, over the whole store.
 #![tactic(auto)]
+
 mod clearing;
 mod flushing;
 mod listing;

@@ -1,5 +1,6 @@
 // Insert a component: the row moves to the archetype with that type too, or a component that is held is overwritten.
 #![tactic(auto)]
+
 ghost use Rattle.std.specs.Prelude.{true, false, ◌≡◌, ◌<◌, length};
 ghost use Rattle.refusal.specs.Table.{Did, test_of};
 ghost use Rattle.id_tables.specs.Ids.{ids_of, place_at};

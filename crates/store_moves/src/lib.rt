@@ -1,5 +1,6 @@
 // What insert and remove of a component share: the target archetype, the tests of a row that is to move, and the step that moves it.
 #![tactic(auto)]
+
 mod steps;
 mod target;
 mod tests;

@@ -1,5 +1,6 @@
 // The store calls that move no row: read and write a component, borrow and release a column, the lookups.
 #![tactic(auto)]
+
 mod component;
 mod lookups;
 mod reads;

@@ -1,5 +1,6 @@
 // Remove a component: the row moves to the archetype of its other types.
 #![tactic(auto)]
+
 ghost use Rattle.std.specs.Prelude.{true, ◌≡◌, ◌<◌};
 ghost use Rattle.refusal.specs.Table.{Did, test_of};
 ghost use Rattle.id_tables.specs.Ids.{ids_of, place_at};

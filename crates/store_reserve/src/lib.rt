@@ -1,5 +1,6 @@
 // Reserve one number, n at once, and the free list, over the whole store: only the head changes, and an output.
 #![tactic(auto)]
+
 ghost use Rattle.refusal.specs.Table.{Did};
 ghost use Rattle.id_tables.specs.Ids.{ids_of};
 ghost use Rattle.id_tables.specs.Lookup.{counted_of, done_of, head_after};

@@ -1,5 +1,6 @@
 // Spawn: a new entity in a row of its own.
 #![tactic(auto)]
+
 ghost use Rattle.std.specs.Prelude.{true, ◌≡◌, ◌≤◌, ltb};
 ghost use Rattle.refusal.specs.Table.{Did, test_of, passing};
 ghost use Rattle.id_tables.specs.Head.{flushed, room_in};

@@ -1,5 +1,6 @@
 // Spawn at: an entity of a chosen handle, in a row of its own.
 #![tactic(auto)]
+
 ghost use Rattle.std.specs.Prelude.{◌≡◌};
 ghost use Rattle.refusal.specs.Table.{Did};
 ghost use Rattle.handle.specs.Bits.{number_in};

@@ -1,5 +1,6 @@
 // Steps of the store, over any tables: a row leaves its archetype, and the number that falls into the hole learns its place; a number takes a row. What has no place does nothing.
 #![tactic(auto)]
+
 ghost use Rattle.std.specs.Prelude.{◌≡◌};
 ghost use Rattle.row_step.specs.Tables.{tables_of};
 ghost use Rattle.store_steps.specs.Parts.{block_by, part_by};

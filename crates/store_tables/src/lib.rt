@@ -1,5 +1,6 @@
 // What every store call tests first, and the tests of places and entities that several calls share.
 #![tactic(auto)]
+
 mod run;
 
 ghost use Rattle.std.specs.Prelude.{◌≡◌, ◌-◌};

@@ -11,16 +11,13 @@ pub overflow_cast-size : goal.overflow_cast-size
 overflow_cast-size c = omega (arith, c.type_inv.sizes c.loop-j.j)
 
 pub loop-j-preserved : goal.loop-j-preserved
-loop-j-preserved c =
-    (
-      c.copy.auto.bytes ∙ c.loop-j.invariant.0,
-      c.loop-j.invariant.1
-          ∙ carry_more _ _ c.loop-j-test.true _ _ _ _ _ _
-          c.cell.ensures c.cell-in-loop-j.ensures
-          c.next-source.ensures c.next-target.ensures _ _ (omega arith) c.copy.ensures,
-    )
+loop-j-preserved c = (
+  c.copy.auto.bytes ∙ c.loop-j.invariant.0,
+  c.loop-j.invariant.1
+      ∙ carry_more _ _ c.loop-j-test.true _ _ _ _ _ _
+      c.cell.ensures c.cell-in-loop-j.ensures
+      c.next-source.ensures c.next-target.ensures _ _ (omega arith) c.copy.ensures,
+)
 
 pub returns : goal.returns
 returns c = sym (c.loop-j.invariant.1 ∙ carry_none _ _ c.loop-j-test.false _ _ _)
-
--- CONV: inline answer: λ c. (refl, refl)

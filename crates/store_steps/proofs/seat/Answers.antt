@@ -4,5 +4,3 @@ use Rattle.store_steps.proofs.seat.Goals as goal
 
 pub returns : goal.returns
 returns c = rw (← c.block_of-block.ensures, ← c.part_of-own.ensures) c.seat_in.ensures
-
--- CONV: not mapped: Block-of.ensures

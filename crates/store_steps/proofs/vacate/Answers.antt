@@ -4,5 +4,3 @@ use Rattle.store_steps.proofs.vacate.Goals as goal
 
 pub returns : goal.returns
 returns c = rw (← c.block_of-block.ensures, ← c.part_of-own.ensures) c.vacate_in.ensures
-
--- CONV: not mapped: Block-of.ensures

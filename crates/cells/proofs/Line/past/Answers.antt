@@ -11,5 +11,3 @@ loop-j-preserved c = (next_fits _ _ c.next-line.ensures, c.loop-j.invariant.1 �
 
 pub returns : goal.returns
 returns c = past_all _ _ c.loop-j-test.false _ c.loop-j.invariant.0 ∙ sym c.loop-j.invariant.1
-
--- CONV: inline answer: λ c. (search rules, refl)

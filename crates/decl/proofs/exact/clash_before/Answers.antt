@@ -22,13 +22,12 @@ returns-then-clash c =
     (clash_told _ _ _ _ _ _ _ _ _ c.loop-a.invariant.1 c.end_of-end.ensures.0 c.requires.b_in_bounds.1 c.requires.b_in_bounds.2 c.clash.ensures ∙ c.if-clash.true))
 
 pub loop-a-preserved : goal.loop-a-preserved
-loop-a-preserved c =
-    (
-      search rules,
-      c.end_of-end.ensures.0,
-      any_more _ _ c.loop-a.invariant.2
-          (clash_told _ _ _ _ _ _ _ _ _ c.loop-a.invariant.1 c.end_of-end.ensures.0 c.requires.b_in_bounds.1 c.requires.b_in_bounds.2 c.clash.ensures ∙ c.if-clash.false),
-    )
+loop-a-preserved c = (
+  search rules,
+  c.end_of-end.ensures.0,
+  any_more _ _ c.loop-a.invariant.2
+      (clash_told _ _ _ _ _ _ _ _ _ c.loop-a.invariant.1 c.end_of-end.ensures.0 c.requires.b_in_bounds.1 c.requires.b_in_bounds.2 c.clash.ensures ∙ c.if-clash.false),
+)
 
 pub returns : goal.returns
 returns c = sym (any_done _ _ _ c.loop-a.invariant.2 c.loop-a.invariant.0 c.loop-a-test.false)

@@ -28,10 +28,3 @@ pub returns : goal.returns
 returns c =
     alone_settles _ c.requires.0 c.requires.1 c.requires.2 c.requires.3 c.if-types-eq0.false c.if-widths-gt-COLUMNS.false c.if-types-widths.false c.if-rows-gt-ROWS.false c.if-rows-gt-ROWS-2.false
     c.width_of.ensures c.in-Of.is
-
--- CONV: inline answer: λ c. record { told = tt }
--- CONV: inline answer: λ c. record { told = tt }
--- CONV: inline answer: λ c. record { told = tt }
--- CONV: inline answer: λ c. record { told = tt }
--- CONV: inline answer: λ c. record { told = tt }
--- CONV: inline answer: λ c. record { told = tt }

@@ -57,10 +57,3 @@ loop-a-preserved c =
 pub returns : goal.returns
 returns c =
     look_settles _ c.loop-a.invariant.1 c.loop-a.invariant.2 (omega (arith, c.loop-a.invariant.0, c.loop-a-test.false)) c.requires.0 c.requires.1 c.requires.2 c.requires.3 (sym c.if-at-types.false) c.requires.4
-
--- CONV: inline answer: λ c. record { told = tt }
--- CONV: inline answer: λ c. record { told = tt }
--- CONV: inline answer: λ c. record { told = tt }
--- CONV: inline answer: λ c. record { told = tt }
--- CONV: inline answer: λ c. record { told = tt }
--- CONV: inline answer: λ c. record { told = tt }

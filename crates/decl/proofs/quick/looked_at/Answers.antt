@@ -19,9 +19,3 @@ among-requires c = (omega (arith, c.if-rows-eq0.false), c.if-rows-gt-ARCHETYPES.
 
 pub returns : goal.returns
 returns c = c.among.ensures
-
--- CONV: inline answer: λ c. record { told = tt }
--- CONV: inline answer: λ c. record { told = tt }
--- CONV: inline answer: λ c. record { told = tt }
--- CONV: inline answer: λ c. record { told = tt }
--- CONV: inline answer: λ c. record { told = tt }

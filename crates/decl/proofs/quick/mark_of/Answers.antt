@@ -42,7 +42,3 @@ loop-p-preserved c =
 
 pub returns : goal.returns
 returns c = record { told = marked _ _ _ _ c.loop-p.invariant.1 c.loop-p.invariant.2 c.loop-p.invariant.3 c.loop-p.invariant.0 c.loop-p-test.false }
-
--- CONV: inline answer: λ c. record { told = tt }
--- CONV: inline answer: λ c. record { told = tt }
--- CONV: not mapped: is_known.ensures

@@ -29,6 +29,3 @@ loop-p-preserved c = (omega arith, going_next _ _ _ _ c.loop-p.invariant.1 c.loo
 
 pub returns : goal.returns
 returns c = record { told = going_end _ _ _ _ c.loop-p.invariant.1 c.loop-p.invariant.0 c.loop-p-test.false }
-
--- CONV: inline answer: λ c. record { told = tt }
--- CONV: inline answer: λ c. record { told = tt }

@@ -16,5 +16,3 @@ loop-i-preserved c =
 
 pub returns : goal.returns
 returns c = sym (c.loop-i.invariant.2 ∙ number_none c.loop-i.table c.loop-i.i c.args.to c.loop-i.value (omega (arith, c.least-end.ensures)))
-
--- CONV: inline answer: λ c. (refl, search rules, refl)

@@ -8,14 +8,9 @@ pub loop-i-preserved : goal.loop-i-preserved
 loop-i-preserved c =
     let e = any_cons _ _ _ c.loop-i-test.true in
     elim c.if-entries-i.branch [
-      then-entries-i w ↦ hit c.loop-i.invariant e (eq-eqb _ _ w.if-entries-i.true) w.found-is
-    | else-entries-i w ↦ miss c.loop-i.invariant e (ne_eqb _ _ w.if-entries-i.false) w.found-is
+      | then-entries-i w ↦ hit c.loop-i.invariant e (eq-eqb _ _ w.if-entries-i.true) w.found-is
+      | else-entries-i w ↦ miss c.loop-i.invariant e (ne_eqb _ _ w.if-entries-i.false) w.found-is
     ]
 
 pub returns : goal.returns
 returns c = all_seen c.loop-i.invariant (any_end _ _ _ c.loop-i-test.false)
-
--- CONV: inline answer: λ c. none_yet
--- CONV: not mapped: 0.left
--- CONV: not mapped: 0.taken
--- CONV: not mapped: 1

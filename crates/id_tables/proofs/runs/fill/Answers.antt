@@ -8,5 +8,3 @@ loop-i-preserved c = (search rules, c.loop-i.invariant.1 ∙ fill_one c.loop-i.t
 
 pub returns : goal.returns
 returns c = sym (c.loop-i.invariant.1 ∙ fill_none c.loop-i.table c.loop-i.i c.args.to c.args.value (omega (arith, c.least-end.ensures)))
-
--- CONV: inline answer: λ c. (refl, refl)

@@ -14,5 +14,3 @@ loop-i-preserved c =
 
 pub returns : goal.returns
 returns c = rw (part_end c.loop-i.i c.args.entries.now) at c.any_is-2.ensures ∙ sym c.loop-i.invariant.1
-
--- CONV: inline answer: λ c. (search rules, refl)

@@ -13,5 +13,3 @@ loop-number-preserved c =
 
 pub returns : goal.returns
 returns c = sym (c.loop-number.invariant.2 ∙ queue_none c.loop-number.pending c.loop-number.position c.loop-number.number c.args.to c.loop-number-test.false)
-
--- CONV: inline answer: λ c. (refl, c.requires.0, refl)
