@@ -1,5 +1,6 @@
 // The store's tables in one list of numbers, in the order in which a line tells them: one table read out of it, one kept in it, and a digest of all.
 #![tactic(auto)]
+
 ghost use Rattle.std.specs.Prelude.{◌≡◌, ◌≤◌, min, length, get_or, take, drop, replicate};
 ghost use Rattle.replay_line.specs.Tables.{filled, words, numbers, bytes};
 ghost use Rattle.replay_store_line.specs.Store.{kept, kept_all, digest_of};
