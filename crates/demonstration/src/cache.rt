@@ -19,7 +19,7 @@ pub const SIZES: [u32; 6] = [4, 4, 8, 4, 8, 1];
 // What the rows of all archetypes take: 4 × 4 + 6 × 12 + 6 × 13.
 pub const BYTES: usize = 166;
 
-#[derive(Drop)]
+#[derive(Clone, Copy)]
 pub struct Cache {
     pub head: Head,
     pub generations: [u32; 8],

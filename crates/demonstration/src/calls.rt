@@ -1,9 +1,15 @@
 // The store's calls on the cache. Each says what it answered.
 use crate::cache::{Cache, ROWS, SIZES, TYPES, WIDTHS};
 use crate::say;
+use std::io;
 
 // A candidate with these bytes of its components, in column order.
-pub(crate) fn spawn(cache: Cache, archetype: u32, run: &[u8]) -> Cache {
+pub(crate) fn spawn(
+    rt: &impl Print,
+    cache: Cache,
+    archetype: u32,
+    run: &[u8],
+) -> io::Result<Cache> {
     let mut generations = cache.generations;
     let mut archetypes = cache.archetypes;
     let mut indices = cache.indices;
@@ -29,8 +35,8 @@ pub(crate) fn spawn(cache: Cache, archetype: u32, run: &[u8]) -> Cache {
         archetype,
         run,
     );
-    Cache {
-        head: say::given(answer, cache.head),
+    Ok(Cache {
+        head: say::given(rt, answer, cache.head)?,
         generations: generations,
         archetypes: archetypes,
         indices: indices,
@@ -39,11 +45,11 @@ pub(crate) fn spawn(cache: Cache, archetype: u32, run: &[u8]) -> Cache {
         counts: counts,
         bytes: bytes,
         words: words,
-    }
+    })
 }
 
 // The candidate and its row leave.
-pub(crate) fn despawn(cache: Cache, bits: u64) -> Cache {
+pub(crate) fn despawn(rt: &impl Print, cache: Cache, bits: u64) -> io::Result<Cache> {
     let mut generations = cache.generations;
     let mut archetypes = cache.archetypes;
     let mut indices = cache.indices;
@@ -68,8 +74,8 @@ pub(crate) fn despawn(cache: Cache, bits: u64) -> Cache {
         &words,
         bits,
     );
-    Cache {
-        head: say::done(answer, cache.head),
+    Ok(Cache {
+        head: say::done(rt, answer, cache.head)?,
         generations: generations,
         archetypes: archetypes,
         indices: indices,
@@ -78,11 +84,17 @@ pub(crate) fn despawn(cache: Cache, bits: u64) -> Cache {
         counts: counts,
         bytes: bytes,
         words: words,
-    }
+    })
 }
 
 // The candidate holds this component, with these bytes.
-pub(crate) fn insert(cache: Cache, bits: u64, kind: u32, value: &[u8]) -> Cache {
+pub(crate) fn insert(
+    rt: &impl Print,
+    cache: Cache,
+    bits: u64,
+    kind: u32,
+    value: &[u8],
+) -> io::Result<Cache> {
     let generations = cache.generations;
     let mut archetypes = cache.archetypes;
     let mut indices = cache.indices;
@@ -109,8 +121,8 @@ pub(crate) fn insert(cache: Cache, bits: u64, kind: u32, value: &[u8]) -> Cache 
         kind,
         value,
     );
-    Cache {
-        head: say::tested(answer, cache.head),
+    Ok(Cache {
+        head: say::tested(rt, answer, cache.head)?,
         generations: generations,
         archetypes: archetypes,
         indices: indices,
@@ -119,11 +131,11 @@ pub(crate) fn insert(cache: Cache, bits: u64, kind: u32, value: &[u8]) -> Cache 
         counts: counts,
         bytes: bytes,
         words: words,
-    }
+    })
 }
 
 // The candidate holds this component no longer.
-pub(crate) fn remove(cache: Cache, bits: u64, kind: u32) -> Cache {
+pub(crate) fn remove(rt: &impl Print, cache: Cache, bits: u64, kind: u32) -> io::Result<Cache> {
     let generations = cache.generations;
     let mut archetypes = cache.archetypes;
     let mut indices = cache.indices;
@@ -149,8 +161,8 @@ pub(crate) fn remove(cache: Cache, bits: u64, kind: u32) -> Cache {
         bits,
         kind,
     );
-    Cache {
-        head: say::tested(answer, cache.head),
+    Ok(Cache {
+        head: say::tested(rt, answer, cache.head)?,
         generations: generations,
         archetypes: archetypes,
         indices: indices,
@@ -159,11 +171,11 @@ pub(crate) fn remove(cache: Cache, bits: u64, kind: u32) -> Cache {
         counts: counts,
         bytes: bytes,
         words: words,
-    }
+    })
 }
 
 // Every reserved candidate gets a row, in which it holds nothing.
-pub(crate) fn flush(cache: Cache) -> Cache {
+pub(crate) fn flush(rt: &impl Print, cache: Cache) -> io::Result<Cache> {
     let mut generations = cache.generations;
     let mut archetypes = cache.archetypes;
     let mut indices = cache.indices;
@@ -187,8 +199,8 @@ pub(crate) fn flush(cache: Cache) -> Cache {
         &bytes,
         &words,
     );
-    Cache {
-        head: say::done(answer, cache.head),
+    Ok(Cache {
+        head: say::done(rt, answer, cache.head)?,
         generations: generations,
         archetypes: archetypes,
         indices: indices,
@@ -197,11 +209,11 @@ pub(crate) fn flush(cache: Cache) -> Cache {
         counts: counts,
         bytes: bytes,
         words: words,
-    }
+    })
 }
 
 // Three handles, which no other caller gets, before their rows are made.
-pub(crate) fn reserve(cache: Cache) -> Cache {
+pub(crate) fn reserve(rt: &impl Print, cache: Cache) -> io::Result<Cache> {
     let mut out = [0u64; 3];
     let generations = cache.generations;
     let archetypes = cache.archetypes;
@@ -228,14 +240,14 @@ pub(crate) fn reserve(cache: Cache) -> Cache {
         3,
         &mut out,
     );
-    say::named(out[0]);
-    say::text(b" ");
-    say::named(out[1]);
-    say::text(b" ");
-    say::named(out[2]);
-    say::text(b": ");
-    Cache {
-        head: say::done(answer, cache.head),
+    say::named(rt, out[0])?;
+    say::text(rt, " ")?;
+    say::named(rt, out[1])?;
+    say::text(rt, " ")?;
+    say::named(rt, out[2])?;
+    say::text(rt, ": ")?;
+    Ok(Cache {
+        head: say::done(rt, answer, cache.head)?,
         generations: generations,
         archetypes: archetypes,
         indices: indices,
@@ -244,5 +256,5 @@ pub(crate) fn reserve(cache: Cache) -> Cache {
         counts: counts,
         bytes: bytes,
         words: words,
-    }
+    })
 }

@@ -8,6 +8,7 @@ mod show;
 
 use cache::{COST, Cache, KEY, VERDICT};
 use handle::Number;
+use std::io;
 
 const PROVEN: u8 = 1;
 
@@ -17,93 +18,98 @@ fn bits(number: u32, generation: u32) -> u64 {
     handle::bits_of(generation, Number(number))
 }
 
-fn found(cache: Cache, cost: u8, key: u8) -> Cache {
-    say::text(b"  cost ");
-    say::number(cost as u64);
-    say::text(b", key ");
-    say::number(key as u64);
-    say::text(b": ");
-    calls::spawn(cache, 2, &[cost, 0, 0, 0, key, 0, 0, 0, 0, 0, 0, 0])
+fn found(rt: &impl Print, cache: Cache, cost: u8, key: u8) -> io::Result<Cache> {
+    say::text(rt, "  cost ")?;
+    say::number(rt, cost as u64)?;
+    say::text(rt, ", key ")?;
+    say::number(rt, key as u64)?;
+    say::text(rt, ": ")?;
+    calls::spawn(rt, cache, 2, &[cost, 0, 0, 0, key, 0, 0, 0, 0, 0, 0, 0])
 }
 
-fn find(cache: Cache) -> Cache {
-    say::text(b"Five candidates are found.\n");
-    let cache = found(cache, 31, 160);
-    let cache = found(cache, 27, 161);
-    let cache = found(cache, 45, 162);
-    let cache = found(cache, 12, 163);
-    found(cache, 18, 164)
+fn find(rt: &impl Print, cache: Cache) -> io::Result<Cache> {
+    say::text(rt, "Five candidates are found.\n")?;
+    let cache = found(rt, cache, 31, 160)?;
+    let cache = found(rt, cache, 27, 161)?;
+    let cache = found(rt, cache, 45, 162)?;
+    let cache = found(rt, cache, 12, 163)?;
+    found(rt, cache, 18, 164)
 }
 
-fn prove(cache: Cache) -> Cache {
-    say::text(b"Two queries are answered.\n  1v1 is proven: ");
-    let cache = calls::insert(cache, bits(1, 1), VERDICT, &[PROVEN]);
-    say::text(b"  2v1 is refuted: ");
-    calls::insert(cache, bits(2, 1), VERDICT, &[REFUTED])
+fn prove(rt: &impl Print, cache: Cache) -> io::Result<Cache> {
+    say::text(rt, "Two queries are answered.\n  1v1 is proven: ")?;
+    let cache = calls::insert(rt, cache, bits(1, 1), VERDICT, &[PROVEN])?;
+    say::text(rt, "  2v1 is refuted: ")?;
+    calls::insert(rt, cache, bits(2, 1), VERDICT, &[REFUTED])
 }
 
-fn time_out(cache: Cache) {
-    say::text(b"The query of 0v1 times out: nothing is written.\n  verdict of 0v1: ");
-    show::verdict(cache, bits(0, 1));
-}
-
-fn withdraw(cache: Cache) -> Cache {
+fn time_out(rt: &impl Print, cache: Cache) -> io::Result<()> {
     say::text(
-        b"The proof of 1v1 is withdrawn, and 2v1 falls into its row.\n  1v1 loses its verdict: ",
-    );
-    let cache = calls::remove(cache, bits(1, 1), VERDICT);
-    say::text(b"  verdict of 1v1: ");
-    show::verdict(cache, bits(1, 1));
-    say::text(b"  verdict of 2v1: ");
-    show::verdict(cache, bits(2, 1));
-    cache
+        rt,
+        "The query of 0v1 times out: nothing is written.\n  verdict of 0v1: ",
+    )?;
+    show::verdict(rt, cache, bits(0, 1))
 }
 
-fn give_up(cache: Cache) -> Cache {
-    say::text(b"Candidate 0v1 is given up.\n  despawn 0v1: ");
-    let cache = calls::despawn(cache, bits(0, 1));
-    say::text(b"  cost of 0v1: ");
-    show::component(cache, bits(0, 1), COST);
-    cache
+fn withdraw(rt: &impl Print, cache: Cache) -> io::Result<Cache> {
+    say::text(
+        rt,
+        "The proof of 1v1 is withdrawn, and 2v1 falls into its row.\n  1v1 loses its verdict: ",
+    )?;
+    let cache = calls::remove(rt, cache, bits(1, 1), VERDICT)?;
+    say::text(rt, "  verdict of 1v1: ")?;
+    show::verdict(rt, cache, bits(1, 1))?;
+    say::text(rt, "  verdict of 2v1: ")?;
+    show::verdict(rt, cache, bits(2, 1))?;
+    Ok(cache)
 }
 
-fn announce(cache: Cache) -> Cache {
-    say::text(b"Three candidates are announced.\n  reserve 3: ");
-    let cache = calls::reserve(cache);
-    let cache = found(cache, 9, 166);
-    say::text(b"  flush: ");
-    calls::flush(cache)
+fn give_up(rt: &impl Print, cache: Cache) -> io::Result<Cache> {
+    say::text(rt, "Candidate 0v1 is given up.\n  despawn 0v1: ")?;
+    let cache = calls::despawn(rt, cache, bits(0, 1))?;
+    say::text(rt, "  cost of 0v1: ")?;
+    show::component(rt, cache, bits(0, 1), COST)?;
+    Ok(cache)
 }
 
-fn work_out(cache: Cache) -> Cache {
-    say::text(b"Candidate 5v1 is worked out.\n  its cost is 22: ");
-    let cache = calls::insert(cache, bits(5, 1), COST, &[22, 0, 0, 0]);
-    say::text(b"  its key is 165: ");
-    let cache = calls::insert(cache, bits(5, 1), KEY, &[165, 0, 0, 0, 0, 0, 0, 0]);
-    say::text(b"  it is proven: ");
-    let cache = calls::insert(cache, bits(5, 1), VERDICT, &[PROVEN]);
-    say::text(b"  6v1, which has no cost, is proven: ");
-    calls::insert(cache, bits(6, 1), VERDICT, &[PROVEN])
+fn announce(rt: &impl Print, cache: Cache) -> io::Result<Cache> {
+    say::text(rt, "Three candidates are announced.\n  reserve 3: ")?;
+    let cache = calls::reserve(rt, cache)?;
+    let cache = found(rt, cache, 9, 166)?;
+    say::text(rt, "  flush: ")?;
+    calls::flush(rt, cache)
 }
 
-fn table(cache: Cache) {
-    say::text(b"What each candidate holds.\n");
-    show::candidate(cache, bits(0, 2));
-    show::candidate(cache, bits(1, 1));
-    show::candidate(cache, bits(2, 1));
-    show::candidate(cache, bits(3, 1));
-    show::candidate(cache, bits(4, 1));
-    show::candidate(cache, bits(5, 1));
-    show::candidate(cache, bits(6, 1));
+fn work_out(rt: &impl Print, cache: Cache) -> io::Result<Cache> {
+    say::text(rt, "Candidate 5v1 is worked out.\n  its cost is 22: ")?;
+    let cache = calls::insert(rt, cache, bits(5, 1), COST, &[22, 0, 0, 0])?;
+    say::text(rt, "  its key is 165: ")?;
+    let cache = calls::insert(rt, cache, bits(5, 1), KEY, &[165, 0, 0, 0, 0, 0, 0, 0])?;
+    say::text(rt, "  it is proven: ")?;
+    let cache = calls::insert(rt, cache, bits(5, 1), VERDICT, &[PROVEN])?;
+    say::text(rt, "  6v1, which has no cost, is proven: ")?;
+    calls::insert(rt, cache, bits(6, 1), VERDICT, &[PROVEN])
 }
 
-fn main() {
-    let cache = find(cache::empty());
-    let cache = prove(cache);
-    time_out(cache);
-    let cache = withdraw(cache);
-    let cache = give_up(cache);
-    let cache = announce(cache);
-    let cache = work_out(cache);
-    table(cache);
+fn table(rt: &impl Print, cache: Cache) -> io::Result<()> {
+    say::text(rt, "What each candidate holds.\n")?;
+    show::candidate(rt, cache, bits(0, 2))?;
+    show::candidate(rt, cache, bits(1, 1))?;
+    show::candidate(rt, cache, bits(2, 1))?;
+    show::candidate(rt, cache, bits(3, 1))?;
+    show::candidate(rt, cache, bits(4, 1))?;
+    show::candidate(rt, cache, bits(5, 1))?;
+    show::candidate(rt, cache, bits(6, 1))
+}
+
+fn main(rt: HostRuntime) -> io::Result<()> {
+    let rt = &rt;
+    let cache = find(rt, cache::empty())?;
+    let cache = prove(rt, cache)?;
+    time_out(rt, cache)?;
+    let cache = withdraw(rt, cache)?;
+    let cache = give_up(rt, cache)?;
+    let cache = announce(rt, cache)?;
+    let cache = work_out(rt, cache)?;
+    table(rt, cache)
 }

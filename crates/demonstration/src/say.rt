@@ -3,72 +3,73 @@ use handle::Handle;
 use id_tables::{Done, Head};
 use ids::Given;
 use refusal::{Refusal, Tested};
+use std::io;
 
-pub(crate) fn text(words: &[u8]) {
-    io::write_all(1, words);
+pub(crate) fn text(rt: &impl Print, words: &str) -> io::Result<()> {
+    rt.print(words)
 }
 
-pub(crate) fn number(value: u64) {
-    io::print_decimal(1, value);
+pub(crate) fn number(rt: &impl Print, value: u64) -> io::Result<()> {
+    rt.print(value)
 }
 
 // As 7v2: the number, then the generation.
-pub(crate) fn name(handle: Handle) {
-    number(handle.id().0 as u64);
-    text(b"v");
-    number(handle.generation() as u64);
+pub(crate) fn name(rt: &impl Print, handle: Handle) -> io::Result<()> {
+    number(rt, handle.id().0 as u64)?;
+    text(rt, "v")?;
+    number(rt, handle.generation() as u64)
 }
 
-pub(crate) fn named(bits: u64) {
+pub(crate) fn named(rt: &impl Print, bits: u64) -> io::Result<()> {
     match Handle::from_bits(bits) {
-        handle::Bits::Good(handle) => name(handle),
-        handle::Bits::Refused(r) => refused(r),
+        handle::Bits::Good(handle) => name(rt, handle),
+        handle::Bits::Refused(r) => refused(rt, r),
     }
 }
 
-pub(crate) fn refused(refusal: Refusal) {
-    text(b"refused ");
-    number(refusal.number() as u64);
+pub(crate) fn refused(rt: &impl Print, refusal: Refusal) -> io::Result<()> {
+    text(rt, "refused ")?;
+    number(rt, refusal.number() as u64)
 }
 
 // The handle, or the refusal; and the head to go on with.
-pub(crate) fn given(answer: Given, head: Head) -> Head {
+pub(crate) fn given(rt: &impl Print, answer: Given, head: Head) -> io::Result<Head> {
     let after = match answer {
         Given::Entity(handle, after) => {
-            name(handle);
+            name(rt, handle)?;
             after
         }
         Given::Refused(r) => {
-            refused(r);
+            refused(rt, r)?;
             head
         }
     };
-    text(b"\n");
-    after
+    text(rt, "\n")?;
+    Ok(after)
 }
 
 // That it was done, or the refusal; and the head to go on with.
-pub(crate) fn done(answer: Done, head: Head) -> Head {
+pub(crate) fn done(rt: &impl Print, answer: Done, head: Head) -> io::Result<Head> {
     let after = match answer {
         Done::Granted(after) => {
-            text(b"done");
+            text(rt, "done")?;
             after
         }
         Done::Refused(r) => {
-            refused(r);
+            refused(rt, r)?;
             head
         }
     };
-    text(b"\n");
-    after
+    text(rt, "\n")?;
+    Ok(after)
 }
 
 // The same of a call that leaves the head as it was.
-pub(crate) fn tested(answer: Tested, head: Head) -> Head {
+pub(crate) fn tested(rt: &impl Print, answer: Tested, head: Head) -> io::Result<Head> {
     match answer {
-        Tested::Passed => text(b"done"),
-        Tested::Refused(r) => refused(r),
+        Tested::Passed => text(rt, "done")?,
+        Tested::Refused(r) => refused(rt, r)?,
     }
-    text(b"\n");
-    head
+    text(rt, "\n")?;
+    Ok(head)
 }

@@ -3,6 +3,7 @@ use crate::cache::{BYTES, COST, Cache, KEY, ROWS, SIZES, TYPES, VERDICT, WIDTHS}
 use crate::say;
 use id_tables::Found;
 use refusal::Refusal;
+use std::io;
 use store_reads::Part;
 
 // What a component says, or why there is none.
@@ -91,62 +92,63 @@ fn place(cache: Cache, bits: u64) -> Found {
     )
 }
 
-fn word_of(verdict: u64) {
+fn word_of(rt: &impl Print, verdict: u64) -> io::Result<()> {
     if verdict == 1 {
-        say::text(b"proven");
+        say::text(rt, "proven")
     } else {
-        say::text(b"refuted");
+        say::text(rt, "refuted")
     }
 }
 
 // The verdict in a word, or the refusal of the read.
-pub(crate) fn verdict(cache: Cache, bits: u64) {
+pub(crate) fn verdict(rt: &impl Print, cache: Cache, bits: u64) -> io::Result<()> {
     match reading(cache, bits, VERDICT) {
-        Read::Value(v) => word_of(v),
-        Read::Refused(r) => say::refused(r),
+        Read::Value(v) => word_of(rt, v)?,
+        Read::Refused(r) => say::refused(rt, r)?,
     }
-    say::text(b"\n");
+    say::text(rt, "\n")
 }
 
 // A cost or a key, or the refusal of the read.
-pub(crate) fn component(cache: Cache, bits: u64, kind: u32) {
+pub(crate) fn component(rt: &impl Print, cache: Cache, bits: u64, kind: u32) -> io::Result<()> {
     match reading(cache, bits, kind) {
-        Read::Value(v) => say::number(v),
-        Read::Refused(r) => say::refused(r),
+        Read::Value(v) => say::number(rt, v)?,
+        Read::Refused(r) => say::refused(rt, r)?,
     }
-    say::text(b"\n");
+    say::text(rt, "\n")
 }
 
 // A label and the number, where the component is held.
-fn held(cache: Cache, bits: u64, kind: u32, label: &[u8]) {
+fn held(rt: &impl Print, cache: Cache, bits: u64, kind: u32, label: &str) -> io::Result<()> {
     if let Read::Value(v) = reading(cache, bits, kind) {
-        say::text(label);
-        say::number(v);
+        say::text(rt, label)?;
+        say::number(rt, v)?;
     }
+    Ok(())
 }
 
-fn placed(cache: Cache, bits: u64) {
+fn placed(rt: &impl Print, cache: Cache, bits: u64) -> io::Result<()> {
     match place(cache, bits) {
         Found::At(place) => {
-            say::text(b"  archetype ");
-            say::number(place.archetype as u64);
-            say::text(b"  row ");
-            say::number(place.index.0 as u64);
+            say::text(rt, "  archetype ")?;
+            say::number(rt, place.archetype as u64)?;
+            say::text(rt, "  row ")?;
+            say::number(rt, place.index.0 as u64)
         }
-        Found::Refused(r) => say::refused(r),
+        Found::Refused(r) => say::refused(rt, r),
     }
 }
 
 // A line of the table: the candidate, its place, and what it holds.
-pub(crate) fn candidate(cache: Cache, bits: u64) {
-    say::text(b"  ");
-    say::named(bits);
-    placed(cache, bits);
-    held(cache, bits, COST, b"  cost ");
-    held(cache, bits, KEY, b"  key ");
+pub(crate) fn candidate(rt: &impl Print, cache: Cache, bits: u64) -> io::Result<()> {
+    say::text(rt, "  ")?;
+    say::named(rt, bits)?;
+    placed(rt, cache, bits)?;
+    held(rt, cache, bits, COST, "  cost ")?;
+    held(rt, cache, bits, KEY, "  key ")?;
     if let Read::Value(v) = reading(cache, bits, VERDICT) {
-        say::text(b"  ");
-        word_of(v);
+        say::text(rt, "  ")?;
+        word_of(rt, v)?;
     }
-    say::text(b"\n");
+    say::text(rt, "\n")
 }

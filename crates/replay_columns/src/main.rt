@@ -5,12 +5,14 @@ mod calls;
 mod tables;
 
 use replay_line::{least, line, next, number};
+use std::io;
 use tables::Tables;
 
 const TABLES: u64 = 1;
 
 // A call on as much of the tables as it is lent.
 fn call(
+    rt: &impl Print,
     line: &[u64],
     rows: &[u32],
     widths: &[u32],
@@ -20,18 +22,18 @@ fn call(
     counts: &mut [u32],
     bytes: &mut [u8],
     values: &mut [u8],
-) {
+) -> io::Result<()> {
     let mut out = [0u64; 4];
     let code = calls::answer(
         line, rows, widths, types, sizes, numbers, counts, bytes, values, &mut out,
     );
     let declared = tables::declared(rows, widths, types, sizes);
     let left = tables::digest(declared, numbers, counts, bytes, values);
-    replay_line::say(code, &out, left);
+    replay_line::say(rt, code, &out, left)
 }
 
 // The line tells the length of the row counts and of the bytes.
-fn play(tables: Tables, line: &[u64]) -> Tables {
+fn play(rt: &impl Print, tables: Tables, line: &[u64]) -> io::Result<Tables> {
     let rows = tables.rows;
     let widths = tables.widths;
     let types = tables.types;
@@ -46,6 +48,7 @@ fn play(tables: Tables, line: &[u64]) -> Tables {
     let b = least(number(line, 5), 64);
     let v = tables::count(line);
     call(
+        rt,
         line,
         &rows,
         &widths,
@@ -55,8 +58,8 @@ fn play(tables: Tables, line: &[u64]) -> Tables {
         &mut counts[0..c],
         &mut bytes[0..b],
         &mut values[0..v],
-    );
-    Tables {
+    )?;
+    Ok(Tables {
         rows: rows,
         widths: widths,
         types: types,
@@ -64,33 +67,32 @@ fn play(tables: Tables, line: &[u64]) -> Tables {
         numbers: numbers,
         counts: counts,
         bytes: bytes,
-    }
+    })
 }
 
-fn turn(tables: Tables, line: &[u64]) -> Tables {
+fn turn(rt: &impl Print, tables: Tables, line: &[u64]) -> io::Result<Tables> {
     if number(line, 0) == TABLES {
-        tables::told(line)
+        Ok(tables::told(line))
     } else {
-        play(tables, line)
+        play(rt, tables, line)
     }
 }
 
 // The list begins with the number of its lines.
-fn walk(list: &[u64]) {
+fn walk(rt: &impl Print, list: &[u64]) -> io::Result<()> {
     let mut tables = tables::empty();
-    let mut left = number(list, 0);
     let mut at = 1;
-    while left > 0 {
-        tables = turn(tables, line(list, at));
+    for _ in 0..number(list, 0) {
+        tables = turn(rt, tables, line(list, at))?;
         at = next(list, at);
-        left -= 1;
     }
+    Ok(())
 }
 
-fn main() {
+fn main(rt: HostRuntime) -> io::Result<()> {
     let mut text = [0u8; 65536];
     let mut list = [0u64; 32768];
-    let n = io::read_full(0, &mut text);
+    let n = replay_line::read_full(&rt, &mut text)?;
     replay_line::numbers(&text[..n], &mut list);
-    walk(&list);
+    walk(&rt, &list)
 }

@@ -8,6 +8,7 @@ mod tables;
 mod words;
 
 use replay_line::{least, line, next, number};
+use std::io;
 use tables::Tables;
 
 const TABLES: u64 = 1;
@@ -47,6 +48,7 @@ fn answer(
 
 // A call on as much of the tables as it is lent.
 fn call(
+    rt: &impl Print,
     line: &[u64],
     head: &mut [u64; 4],
     generations: &mut [u32],
@@ -54,7 +56,7 @@ fn call(
     indices: &mut [u32],
     pending: &mut [u32],
     values: &mut [u64],
-) {
+) -> io::Result<()> {
     let mut out = [0u64; 4];
     let code = answer(
         line,
@@ -67,11 +69,11 @@ fn call(
         &mut out,
     );
     let left = tables::digest(head, generations, archetypes, indices, pending, values);
-    replay_line::say(code, &out, left);
+    replay_line::say(rt, code, &out, left)
 }
 
 // The line tells the length of the first three tables and of the pending list.
-fn play(tables: Tables, line: &[u64]) -> Tables {
+fn play(rt: &impl Print, tables: Tables, line: &[u64]) -> io::Result<Tables> {
     let mut head = tables.head;
     let generations = tables.generations;
     let mut generations = tables::whole(generations);
@@ -86,6 +88,7 @@ fn play(tables: Tables, line: &[u64]) -> Tables {
     let p = least(number(line, 5), 4097);
     let v = tables::count(line);
     call(
+        rt,
         line,
         &mut head,
         &mut generations[0..n],
@@ -93,40 +96,39 @@ fn play(tables: Tables, line: &[u64]) -> Tables {
         &mut indices[0..n],
         &mut pending[0..p],
         &mut values[0..v],
-    );
-    Tables {
+    )?;
+    Ok(Tables {
         head: head,
         generations: generations,
         archetypes: archetypes,
         indices: indices,
         pending: pending,
-    }
+    })
 }
 
-fn turn(tables: Tables, line: &[u64]) -> Tables {
+fn turn(rt: &impl Print, tables: Tables, line: &[u64]) -> io::Result<Tables> {
     if number(line, 0) == TABLES {
-        tables::told(line)
+        Ok(tables::told(line))
     } else {
-        play(tables, line)
+        play(rt, tables, line)
     }
 }
 
 // The list begins with the number of its lines.
-fn walk(list: &[u64]) {
+fn walk(rt: &impl Print, list: &[u64]) -> io::Result<()> {
     let mut tables = tables::empty();
-    let mut left = number(list, 0);
     let mut at = 1;
-    while left > 0 {
-        tables = turn(tables, line(list, at));
+    for _ in 0..number(list, 0) {
+        tables = turn(rt, tables, line(list, at))?;
         at = next(list, at);
-        left -= 1;
     }
+    Ok(())
 }
 
-fn main() {
+fn main(rt: HostRuntime) -> io::Result<()> {
     let mut text = [0u8; 65536];
     let mut list = [0u64; 32768];
-    let n = io::read_full(0, &mut text);
+    let n = replay_line::read_full(&rt, &mut text)?;
     replay_line::numbers(&text[..n], &mut list);
-    walk(&list);
+    walk(&rt, &list)
 }

@@ -1,10 +1,8 @@
 -- What one byte of a text changes.
 -- Assumes nothing.
-use mathlib.Core.Path.{◌≡◌, ap}
-use mathlib.Core.List.{List}
-use Prim.Native.Nat.{ℕ, ◌+◌, ◌<◌, ◌≤◌}
-use borrow.Author.Tests.{lt-ltb, le-ltb}
-use lib.ListN.{length, set}
+use Rattle.std.proofs.Common.{◌≡◌, ap, List, ℕ, ◌+◌, ◌<◌, ◌≤◌, length}
+use Rattle.std.proofs.Math.ListN.{set}
+use Rattle.std.proofs.lemmas.Bool.{lt-ltb, le-ltb}
 use Rattle.replay_line.specs.Text.{digit_of, with_digit, Reading, reading, stored, read}
 
 module _ (t : List ℕ) (n v b d : ℕ) (is : d ≡ digit_of b) where

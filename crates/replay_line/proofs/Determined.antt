@@ -1,14 +1,11 @@
 -- The contracts determine the result and what is left: no second result fits. One instance a function, under its name.
 -- Assumes nothing.
-use Prim.Native.Nat.{ℕ, ◌%◌, ◌^◌, min}
-use mathlib.Core.Path.{◌≡◌, sym, ◌∙◌}
-use mathlib.Core.List.{List}
-use lib.ListN.{get_or, take, drop}
+use Rattle.std.proofs.Common.{ℕ, ◌%◌, ◌^◌, min, ◌≡◌, sym, ◌∙◌, List, get_or, take, drop}
 use Rattle.replay_line.specs.Through.{through}
 use Rattle.replay_line.specs.Text.{read_from}
 use Rattle.replay_line.specs.Lines.{line_at, next_at}
 use Rattle.replay_line.specs.Tables.{words, filled, mixed, mixed_word, mixed_low}
-use Rattle.replay_line.specs.Tables.{numbers as keptNumbers, bytes as keptBytes}
+use Rattle.replay_line.specs.Tables.{numbers as kept_numbers, bytes as kept_bytes}
 
 -- one value meets an equation with a rule
 abbrev One : {A : Type 0} → A → Type 0
@@ -38,10 +35,10 @@ next list at = one _
 pub fill_words : (table values : List ℕ) → One (filled words table values)
 fill_words table values = one _
 
-pub fill_numbers : (table values : List ℕ) → One (filled keptNumbers table values)
+pub fill_numbers : (table values : List ℕ) → One (filled kept_numbers table values)
 fill_numbers table values = one _
 
-pub fill_bytes : (table values : List ℕ) → One (filled keptBytes table values)
+pub fill_bytes : (table values : List ℕ) → One (filled kept_bytes table values)
 fill_bytes table values = one _
 
 pub widen_numbers : (table values : List ℕ) → One (filled words table values)

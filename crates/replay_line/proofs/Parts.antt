@@ -1,11 +1,9 @@
 -- Parts of a list that may be shorter.
 -- Assumes nothing.
-use mathlib.Core.Path.{◌≡◌, sym, ◌∙◌}
-use mathlib.Core.List.{List, []}
-use Prim.Native.Nat.{ℕ, ◌+◌, ◌-◌, ◌≤◌, ◌<◌}
-use native.Mathlib.Omega.{arith}
-use lib.Seq.{take_all, take-nil}
-use lib.ListN.{length, take, drop, length-drop, drop_of_length-le}
+use Rattle.std.proofs.Common.{◌≡◌, sym, ◌∙◌, List, [], ℕ, ◌+◌, ◌-◌, ◌≤◌, arith, length, take, drop, length-drop}
+use Rattle.std.proofs.Math.ListN.{drop_of_length-le}
+use Rattle.std.proofs.Math.Seq.{take-nil}
+use Rattle.std.proofs.lemmas.List.{take_all}
 use Rattle.replay_line.specs.Lines.{line_at}
 
 module _ (list : List ℕ) (at : ℕ) where

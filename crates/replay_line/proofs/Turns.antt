@@ -1,11 +1,7 @@
 -- A loop that takes a step for each element: what is left of the list decides.
 -- Assumes nothing.
-use mathlib.Core.Path.{◌≡◌, sym, ap, ◌∙◌}
-use mathlib.Core.List.{List}
-use Prim.Native.Nat.{ℕ, ◌+◌, ◌<◌, ◌≤◌}
-use native.Mathlib.Numerals.{add-one}
-use lib.Seq.{drop-cons}
-use lib.ListN.{length, get_or, set, drop, drop_of_length-le}
+use Rattle.std.proofs.Common.{◌≡◌, ap, List, ℕ, ◌+◌, ◌<◌, ◌≤◌, add-one, drop-cons, length, get_or, drop}
+use Rattle.std.proofs.Math.ListN.{set, drop_of_length-le}
 use Rattle.replay_line.specs.Through.{through}
 use Rattle.replay_line.specs.Tables.{placed}
 

@@ -1,24 +1,8 @@
 // What is printed of a call.
-fn space() {
-    io::write_all(1, b" ");
-}
-
-fn answers(out: &[u64; 4]) {
-    io::print_hex(1, out[0], 1);
-    space();
-    io::print_hex(1, out[1], 1);
-    space();
-    io::print_hex(1, out[2], 1);
-    space();
-    io::print_hex(1, out[3], 1);
-}
+use std::io;
 
 // A line: the refusal's number or 0, the four numbers of the answer, and the digest of what is left, in hexadecimal.
-pub fn say(code: u32, out: &[u64; 4], digest: u64) {
-    io::print_hex(1, code as u64, 1);
-    space();
-    answers(out);
-    space();
-    io::print_hex(1, digest, 1);
-    io::write_all(1, b"\n");
+pub fn say(rt: &impl Print, code: u32, out: &[u64; 4], digest: u64) -> io::Result<()> {
+    let [a, b, c, d] = *out;
+    println!(rt; "{code:x} {a:x} {b:x} {c:x} {d:x} {digest:x}")
 }

@@ -6,6 +6,7 @@ use replay_store_line::{
     WORDS, counts_lent, digest, keep, nine, nine_words, pending_lent, six, sixteen,
     sixty_four_bytes, value_bytes, values_lent,
 };
+use std::io;
 
 fn answer(
     line: &[u64],
@@ -64,6 +65,7 @@ fn answer(
 
 // What the call leaves is kept.
 fn play_on(
+    rt: &impl Print,
     tables: &mut [u64],
     line: &[u64],
     head: &mut [u64; 4],
@@ -80,7 +82,7 @@ fn play_on(
     bytes: &mut [u8; 64],
     words: &[u64],
     run: &[u8],
-) {
+) -> io::Result<()> {
     let out = [0u64; 4];
     let code = answer(
         line,
@@ -112,10 +114,11 @@ fn play_on(
         words,
     );
     let left = digest_bytes(digest(tables, line), run);
-    say(code, &out, left);
+    say(rt, code, &out, left)
 }
 
 fn play_of(
+    rt: &impl Print,
     tables: &mut [u64],
     line: &[u64],
     head: &mut [u64; 4],
@@ -124,7 +127,7 @@ fn play_of(
     types: &[u32],
     sizes: &[u32],
     generations: &mut [u32; 16],
-) {
+) -> io::Result<()> {
     let mut archetypes = sixteen(tables, ARCHETYPES);
     let mut indices = sixteen(tables, INDICES);
     let pending = sixteen(tables, PENDING);
@@ -137,6 +140,7 @@ fn play_of(
     let run = value_bytes(line);
     let v = values_lent(line);
     play_on(
+        rt,
         tables,
         line,
         head,
@@ -153,10 +157,10 @@ fn play_of(
         &mut bytes,
         &words,
         &run[0..v],
-    );
+    )
 }
 
-pub(crate) fn play(tables: &mut [u64], line: &[u64]) {
+pub(crate) fn play(rt: &impl Print, tables: &mut [u64], line: &[u64]) -> io::Result<()> {
     let mut head = replay_store_line::head(tables);
     let rows = six(tables, ROWS);
     let widths = six(tables, WIDTHS);
@@ -164,6 +168,7 @@ pub(crate) fn play(tables: &mut [u64], line: &[u64]) {
     let sizes = nine(tables, SIZES);
     let mut generations = sixteen(tables, GENERATIONS);
     play_of(
+        rt,
         tables,
         line,
         &mut head,
@@ -172,5 +177,5 @@ pub(crate) fn play(tables: &mut [u64], line: &[u64]) {
         &types,
         &sizes,
         &mut generations,
-    );
+    )
 }

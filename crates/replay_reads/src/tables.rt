@@ -6,6 +6,7 @@ use replay_store_line::{
     WORDS, counts_lent, digest, keep, nine, nine_words, pending_lent, six, sixteen,
     sixty_four_bytes, values, values_lent,
 };
+use std::io;
 
 fn answer(
     line: &[u64],
@@ -85,6 +86,7 @@ fn answer(
 
 // What the call leaves is kept.
 fn play_on(
+    rt: &impl Print,
     tables: &mut [u64],
     line: &[u64],
     head: &mut [u64; 4],
@@ -101,7 +103,7 @@ fn play_on(
     bytes: &[u8],
     words: &mut [u64],
     handles: &mut [u64],
-) {
+) -> io::Result<()> {
     let mut out = [0u64; 4];
     let code = answer(
         line,
@@ -134,10 +136,11 @@ fn play_on(
         words,
     );
     let left = digest_words(digest(tables, line), handles);
-    say(code, &out, left);
+    say(rt, code, &out, left)
 }
 
 fn play_of(
+    rt: &impl Print,
     tables: &mut [u64],
     line: &[u64],
     head: &mut [u64; 4],
@@ -146,7 +149,7 @@ fn play_of(
     types: &[u32],
     sizes: &[u32],
     generations: &[u32],
-) {
+) -> io::Result<()> {
     let archetypes = sixteen(tables, ARCHETYPES);
     let indices = sixteen(tables, INDICES);
     let pending = sixteen(tables, PENDING);
@@ -159,6 +162,7 @@ fn play_of(
     let mut handles = values(line);
     let v = values_lent(line);
     play_on(
+        rt,
         tables,
         line,
         head,
@@ -175,10 +179,10 @@ fn play_of(
         &bytes,
         &mut words,
         &mut handles[0..v],
-    );
+    )
 }
 
-pub(crate) fn play(tables: &mut [u64], line: &[u64]) {
+pub(crate) fn play(rt: &impl Print, tables: &mut [u64], line: &[u64]) -> io::Result<()> {
     let mut head = replay_store_line::head(tables);
     let rows = six(tables, ROWS);
     let widths = six(tables, WIDTHS);
@@ -186,6 +190,7 @@ pub(crate) fn play(tables: &mut [u64], line: &[u64]) {
     let sizes = nine(tables, SIZES);
     let generations = sixteen(tables, GENERATIONS);
     play_of(
+        rt,
         tables,
         line,
         &mut head,
@@ -194,5 +199,5 @@ pub(crate) fn play(tables: &mut [u64], line: &[u64]) {
         &types,
         &sizes,
         &generations,
-    );
+    )
 }

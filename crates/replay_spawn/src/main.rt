@@ -6,33 +6,33 @@ mod tables;
 
 use replay_line::{fill_words, line, next, number, part};
 use replay_store_line::ALL;
+use std::io;
 
 const TABLES: u64 = 1;
 
-fn turn(tables: &mut [u64], line: &[u64]) {
+fn turn(rt: &impl Print, tables: &mut [u64], line: &[u64]) -> io::Result<()> {
     if number(line, 0) == TABLES {
         fill_words(tables, part(line, 1, ALL));
-        return;
+        return Ok(());
     }
-    tables::play(tables, line);
+    tables::play(rt, tables, line)
 }
 
 // The list begins with the number of its lines.
-fn walk(list: &[u64], tables: &mut [u64]) {
-    let mut left = number(list, 0);
+fn walk(rt: &impl Print, list: &[u64], tables: &mut [u64]) -> io::Result<()> {
     let mut at = 1;
-    while left > 0 {
-        turn(tables, line(list, at));
+    for _ in 0..number(list, 0) {
+        turn(rt, tables, line(list, at))?;
         at = next(list, at);
-        left -= 1;
     }
+    Ok(())
 }
 
-fn main() {
+fn main(rt: HostRuntime) -> io::Result<()> {
     let mut text = [0u8; 65536];
     let mut list = [0u64; 32768];
     let mut tables = [0u64; ALL];
-    let n = io::read_full(0, &mut text);
+    let n = replay_line::read_full(&rt, &mut text)?;
     replay_line::numbers(&text[..n], &mut list);
-    walk(&list, &mut tables);
+    walk(&rt, &list, &mut tables)
 }

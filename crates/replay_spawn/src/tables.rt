@@ -6,9 +6,11 @@ use replay_store_line::{
     WORDS, counts_lent, digest, keep, nine, nine_words, pending_lent, six, sixteen,
     sixty_four_bytes, value_bytes, values_lent,
 };
+use std::io;
 
 // What the call leaves is kept.
 fn play_on(
+    rt: &impl Print,
     tables: &mut [u64],
     line: &[u64],
     head: &mut [u64; 4],
@@ -25,7 +27,7 @@ fn play_on(
     bytes: &mut [u8; 64],
     words: &[u64],
     run: &[u8],
-) {
+) -> io::Result<()> {
     let mut out = [0u64; 4];
     let code = entities::answer(
         line,
@@ -58,10 +60,11 @@ fn play_on(
         words,
     );
     let left = digest_bytes(digest(tables, line), run);
-    say(code, &out, left);
+    say(rt, code, &out, left)
 }
 
 fn play_of(
+    rt: &impl Print,
     tables: &mut [u64],
     line: &[u64],
     head: &mut [u64; 4],
@@ -70,7 +73,7 @@ fn play_of(
     types: &[u32],
     sizes: &[u32],
     generations: &mut [u32; 16],
-) {
+) -> io::Result<()> {
     let mut archetypes = sixteen(tables, ARCHETYPES);
     let mut indices = sixteen(tables, INDICES);
     let mut pending = sixteen(tables, PENDING);
@@ -83,6 +86,7 @@ fn play_of(
     let run = value_bytes(line);
     let v = values_lent(line);
     play_on(
+        rt,
         tables,
         line,
         head,
@@ -99,10 +103,10 @@ fn play_of(
         &mut bytes,
         &words,
         &run[0..v],
-    );
+    )
 }
 
-pub(crate) fn play(tables: &mut [u64], line: &[u64]) {
+pub(crate) fn play(rt: &impl Print, tables: &mut [u64], line: &[u64]) -> io::Result<()> {
     let mut head = replay_store_line::head(tables);
     let rows = six(tables, ROWS);
     let widths = six(tables, WIDTHS);
@@ -110,6 +114,7 @@ pub(crate) fn play(tables: &mut [u64], line: &[u64]) {
     let sizes = nine(tables, SIZES);
     let mut generations = sixteen(tables, GENERATIONS);
     play_of(
+        rt,
         tables,
         line,
         &mut head,
@@ -118,5 +123,5 @@ pub(crate) fn play(tables: &mut [u64], line: &[u64]) {
         &types,
         &sizes,
         &mut generations,
-    );
+    )
 }

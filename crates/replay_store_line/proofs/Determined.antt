@@ -1,9 +1,7 @@
 -- The contracts determine the result and what is left: no second result fits. One instance a function, under its name.
 -- Assumes nothing.
-use Prim.Native.Nat.{ℕ, min}
-use mathlib.Core.Path.{◌≡◌, sym, ◌∙◌}
-use mathlib.Core.List.{List}
-use lib.ListN.{length, get_or, take, drop, replicate}
+use Rattle.std.proofs.Common.{ℕ, min, ◌≡◌, sym, ◌∙◌, List, length, get_or, take, drop}
+use Rattle.std.proofs.Math.ListN.{replicate}
 use Rattle.replay_line.specs.Tables.{words, numbers, bytes, filled}
 use Rattle.replay_store_line.specs.Store.{kept, kept_all, digest_of}
 

@@ -1,0 +1,10 @@
+-- A step takes the next number, and at the end there is none.
+use Rattle.replay_line.specs.Tables.{mixed_word}
+use Rattle.replay_line.proofs.Turns.{turned, ended}
+use Rattle.replay_line.proofs.digests.digest_words.Goals as goal
+
+pub loop-i-preserved : goal.loop-i-preserved
+loop-i-preserved c = turned mixed_word _ _ _ _ _ c.loop-i-test.true c.loop-i.invariant c.mix_word-sum.ensures
+
+pub returns : goal.returns
+returns c = ended mixed_word _ _ _ _ c.loop-i-test.false c.loop-i.invariant
