@@ -3,7 +3,6 @@
 use Prim.Native.Nat.{ℕ, ◌^◌, ◌<◌}
 use mathlib.Core.Path.{◌≡◌, sym, ap, ◌∙◌}
 use mathlib.Core.List.{List}
-use lib.IntN.{ℤ}
 use mir.Syntax.{w64}
 use mir.Facts.{to_z_inj}
 use Rattle.refusal.specs.Table.{Answer}

@@ -6,7 +6,7 @@ use mathlib.Core.List.{List}
 use Rattle.refusal.specs.Table.{Answer, granted, refused, Did}
 use Rattle.id_tables.specs.declared.head.Head.{Head}
 use Rattle.id_tables.specs.Ids.{Ids, ids_of}
-use Rattle.crossing.specs.Answers.{Told, Crossed, Passed, four, code_of, numbers_of}
+use Rattle.crossing.specs.Answers.{Told, Crossed, Passed, four, code_of}
 
 module _ {A : Type 0} {values : A → List ℕ} {a : Answer A} where
   pub told_granted : {v : A} {out : List ℕ} → a ≡ granted v → out ≡ values v → Told values a 0 out

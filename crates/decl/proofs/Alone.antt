@@ -6,7 +6,7 @@ use mathlib.Core.Path.{◌≡◌, refl, sym, ap, ◌∙◌}
 use mathlib.Core.Logic.{⊎_elim}
 use mathlib.Core.List.{List, []}
 use native.Mathlib.Omega.{arith}
-use lib.ListN.{length, get_or, take, drop}
+use lib.ListN.{length, get_or}
 use lib.Seq.{take_all}
 use Rattle.decl.specs.Limits.{max_columns, max_size, max_rows}
 use Rattle.decl.specs.Lists.{sum, first_of, part_of, rising}
@@ -16,9 +16,9 @@ use Rattle.decl.specs.Steps.{Orderly, Plain, Ordered, Settled}
 use Rattle.decl.specs.declared.quick.Width.{Width}
 use Rattle.decl.specs.declared.quick.Width.TheVariants.{Of}
 use Rattle.decl.specs.declared.quick.Glance.TheVariants.{Clear}
-use Rattle.decl.proofs.Lists.{rising_all, one_place, first_none, first_step, part_lent, part_length}
+use Rattle.decl.proofs.Lists.{rising_all, one_place, first_none, first_step, part_lent}
 use Rattle.decl.proofs.Glancing.{last_or_before}
-use Rattle.decl.proofs.Counting.{Counted, counted_start, counted_next, counted_shape, width_told}
+use Rattle.decl.proofs.Counting.{counted_start, counted_next, counted_shape, width_told}
 use Rattle.decl.proofs.Measuring.{settled}
 
 -- an ordered list of sizes, once its width has been taken apart

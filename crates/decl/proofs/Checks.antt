@@ -10,7 +10,7 @@ use lib.ListN.{length}
 use Rattle.refusal.specs.Table.{granted, refused, passing}
 use Rattle.refusal.specs.Laws.{past, halted, parts}
 use Rattle.decl.specs.Limits.{max_size}
-use Rattle.decl.specs.Lists.{sum, first_of, rising, same, any_above, any_below, any_pair}
+use Rattle.decl.specs.Lists.{sum, first_of, rising, any_above, any_below, any_pair}
 use Rattle.decl.specs.Decl.{Decl, archetypes, types_of, sizes_of}
 use Rattle.decl.specs.Rules.{shape_rules, same_types, sizes_differ, column_rules, decl_rules}
 use Rattle.decl.specs.Kept.{Shaped}

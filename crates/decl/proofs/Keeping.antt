@@ -11,8 +11,8 @@ use native.Mathlib.Omega.{arith}
 use borrow.Author.Tests.{eqb-true, eqb-false, ltb-false, not-false}
 use lib.Dec.{eqb}
 use lib.ListN.{length, get_or, take, drop, get_or-eq_default}
-use Rattle.refusal.specs.Table.{Rule, ◌when◌, Answer, granted, refused, ◌or_else◌, passing}
-use Rattle.refusal.specs.Laws.{not_refused, passed, both}
+use Rattle.refusal.specs.Table.{Rule, ◌when◌, granted, refused, ◌or_else◌, passing}
+use Rattle.refusal.specs.Laws.{passed, both}
 use Rattle.decl.specs.Limits.{max_archetypes, max_columns, max_size, max_rows}
 use Rattle.decl.specs.Lists.{sum, first_of, rising, any_above, any_below, any_pair}
 use Rattle.decl.specs.Decl.{Decl, archetypes, width_of, columns, first_column, types_of, sizes_of, type_of, size_of}

@@ -1,9 +1,9 @@
 -- The walk to an archetype: what is tested on the way, and what the archetypes before it and it itself take.
 -- Assumes nothing.
 use Prim.Native.Nat.{ℕ, suc, ◌+◌, ◌-◌, ◌*◌, ◌≤◌, ◌<◌}
-use mathlib.Core.Bool.{Bool, true, false, ◌||◌}
-use mathlib.Core.Path.{◌≡◌, refl, sym, ap, ◌∙◌}
-use mathlib.Core.List.{List, [], ◌∷◌}
+use mathlib.Core.Bool.{true, false}
+use mathlib.Core.Path.{◌≡◌, refl, sym}
+use mathlib.Core.List.{List}
 use native.Mathlib.Nat.{mul-le-mul}
 use native.Mathlib.Numerals.{add-one}
 use native.Mathlib.Omega.{arith}
@@ -12,7 +12,7 @@ use lib.Dec.{ltb}
 use lib.ListN.{length, get_or, take, drop, length-take}
 use Rattle.refusal.specs.Table.{granted, refused, ◌or_else◌}
 use Rattle.decl.specs.Limits.{max_archetypes, max_columns, max_rows}
-use Rattle.decl.specs.Lists.{sum, first_of, any_below}
+use Rattle.decl.specs.Lists.{first_of, any_below}
 use Rattle.decl.specs.Decl.{Decl, archetypes, rows_of, width_of, first_row, first_column}
 use Rattle.decl.specs.Kept.{Shaped}
 use Rattle.decl.specs.Places.{too_large, outgrown, row_width, base_of, span_of, spanned}

@@ -3,7 +3,7 @@ use Prim.{Unit}
 use Rattle.std.specs.Prelude.{ℕ, suc, ◌+◌, ◌-◌, ◌*◌, ◌%◌, ◌^◌, ◌≤◌, ◌<◌, Bool, true, false, not, ◌||◌, ◌≡◌, List, [], ◌∷◌, length, get_or, take, drop}
 use Rattle.std.specs.Int.Bits.{bit_or}
 use Rattle.refusal.specs.Table.{granted}
-use Rattle.decl.specs.Limits.{max_columns, max_size, max_rows}
+use Rattle.decl.specs.Limits.{max_columns, max_size}
 use Rattle.decl.specs.Lists.{sum, first_of, part_of, rising, same, any_below}
 use Rattle.decl.specs.Decl.{Decl}
 use Rattle.decl.specs.Rules.{two_sizes}

@@ -1,6 +1,6 @@
 -- The examples of document 01 that are to be proved: what the rules say, entry by entry, against what the document says.
 use Prim.{Unit}
-use Rattle.std.specs.Prelude.{ℕ, ◌-◌, ◌^◌, Bool, true, false, cond, ◌≡◌, refl, List, [], ◌∷◌, ◌++◌, ℤ, pos, negsuc, get_or, take, replicate}
+use Rattle.std.specs.Prelude.{ℕ, ◌-◌, ◌^◌, Bool, true, false, ◌≡◌, refl, List, [], ◌∷◌, ◌++◌, ℤ, pos, negsuc, get_or, take, replicate}
 use Rattle.std.proofs.Math.Option.{Option, none, some}
 use Rattle.refusal.specs.Table.{Answer, granted, refused, value_of, left_of, ◌or_else◌}
 use Rattle.handle.specs.Bits.{MAX, bits_of, place_of, from_bits, new_handle}

@@ -2,7 +2,6 @@
 use Rattle.std.specs.Prelude.{ℕ, ◌+◌, ◌*◌, ◌/◌, ◌%◌, ◌^◌, [], ◌∷◌, eqb}
 use Rattle.refusal.specs.Number.{number_of}
 use Rattle.refusal.specs.Table.{Answer, granted, refused, ◌when◌, ◌otherwise◌}
-use Rattle.handle.specs.declared.Handle.{Handle}
 use Rattle.handle.specs.declared.Place.{Place}
 use Rattle.handle.specs.declared.Bits.{Bits}
 use Rattle.handle.specs.declared.Bits.TheVariants.{Good, Refused}

@@ -1,12 +1,11 @@
 -- A handle's bits come back whole, both ways; no handle of generation 0 is made; no second answer fits.
-use Rattle.std.specs.Prelude.{ℕ, ◌+◌, ◌*◌, ◌/◌, ◌%◌, ◌^◌, ◌<◌, true, false, ◌≡◌, refl, eqb}
-use Rattle.std.proofs.Common.{arith, sym, ap, ◌∙◌, ne_eqb}
+use Rattle.std.specs.Prelude.{ℕ, ◌^◌, ◌<◌, true, false, ◌≡◌, refl, eqb}
+use Rattle.std.proofs.Common.{sym, ap, ◌∙◌, ne_eqb}
 use Rattle.std.proofs.lemmas.Bool.{eqb-false}
 use Rattle.std.proofs.Math.Pow.{split, high, low}
-use Rattle.refusal.specs.Number.{number_of}
-use Rattle.refusal.specs.Table.{granted, refused, ◌or_else◌}
+use Rattle.refusal.specs.Table.{granted, ◌or_else◌}
 use Rattle.refusal.specs.Distinct.{number_inj}
-use Rattle.refusal.specs.Laws.{value_of_lem, passed, stopped, sole_answer}
+use Rattle.refusal.specs.Laws.{value_of_lem, passed, stopped}
 use Rattle.refusal.specs.declared.Refusal.{Refusal}
 use Rattle.handle.specs.declared.Handle.{Handle}
 use Rattle.handle.specs.declared.Number.{Number}

@@ -1,7 +1,7 @@
 -- What the tests of the id layer say, for callers that do not open them.
 -- Assumes nothing.
 use Prim.{tt}
-use Rattle.std.proofs.Common.{◌≡◌, ℕ, ◌-◌, ◌<◌, ◌≤◌, Bool, true, false, ◌||◌, eqb, ltb, List, length, get_or, refl, arith, ltb-true, le-ltb, lt-ltb, eq-eqb, ne_eqb, eqb-true, leb-false}
+use Rattle.std.proofs.Common.{◌≡◌, ℕ, ◌-◌, ◌<◌, ◌≤◌, Bool, true, false, eqb, ltb, List, length, get_or, refl, arith, ltb-true, le-ltb, lt-ltb, eq-eqb, ne_eqb, eqb-true, leb-false}
 use mathlib.Core.Bool.{and-false, or-false}
 use borrow.Author.Tests.{lt-leb, eqb-false, not-true, not-false}
 use lib.Seq.{slice_empty}

@@ -1,5 +1,5 @@
 -- The id tables as lent, what every call tests first, and what it may find in an entry.
-use Rattle.std.specs.Prelude.{◌≡◌, ℕ, ◌+◌, ◌-◌, ◌≤◌, Bool, false, not, ◌&&◌, ◌||◌, ltb, List, [], ◌∷◌, ◌++◌, length, set, ◌==◌, nat_le, nat_lt, slice_index, slice_set}
+use Rattle.std.specs.Prelude.{◌≡◌, ℕ, ◌+◌, ◌-◌, ◌≤◌, Bool, false, not, ◌&&◌, ◌||◌, ltb, List, [], ◌∷◌, ◌++◌, length, ◌==◌, nat_le, nat_lt, slice_index, slice_set}
 use Rattle.refusal.specs.Table.{Rule, ◌when◌}
 use Rattle.handle.specs.Bits.{MAX, place_of}
 use Rattle.handle.specs.declared.Place.{Place}

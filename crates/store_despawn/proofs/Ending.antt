@@ -1,7 +1,7 @@
 -- The step of a despawn: the row has left and its number is freed, which no rule forbids then.
 -- Assumes nothing.
 use Prim.{tt}
-use Prim.Native.Nat.{ℕ, ◌-◌}
+use Prim.Native.Nat.{ℕ}
 use mathlib.Core.Path.{◌≡◌, refl, sym, ap, ◌∙◌}
 use mathlib.Core.Bool.{false}
 use mathlib.Core.List.{List}

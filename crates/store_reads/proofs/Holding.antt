@@ -1,6 +1,6 @@
 -- Borrow and release of a column: the word that is asked for, and what its rule leaves.
 -- Assumes nothing.
-use Prim.{Unit, tt}
+use Prim.{Unit}
 use Prim.Native.Nat.{ℕ, ◌+◌, ◌-◌, ◌≤◌, ◌<◌}
 use native.Mathlib.Omega.{arith}
 use mathlib.Core.Path.{◌≡◌, refl, sym, ap, ◌∙◌}
@@ -25,7 +25,6 @@ use Rattle.column_entry.specs.Entry.{span_in}
 use Rattle.column_entry.specs.Kept.{Kept}
 use Rattle.column_entry.proofs.Keeping.{span_kept}
 use Rattle.store_tables.specs.Store.{Store, with_words, entry}
-use Rattle.store_tables.specs.Kept.{Entered}
 use Rattle.store_tables.proofs.Entering.{entered}
 use Rattle.store_reads.specs.Component.{◌and_then◌}
 use Rattle.store_reads.specs.Steps.{unit_of}

@@ -1,20 +1,19 @@
 -- The place of a handle: what each answer of the tables means, and the rules that it decides.
 -- Assumes nothing.
-use Prim.{Unit, tt}
-use Prim.Native.Nat.{ℕ, ◌+◌, ◌≤◌, ◌<◌}
+use Prim.{tt}
+use Prim.Native.Nat.{ℕ, ◌<◌}
 use native.Mathlib.Omega.{arith}
 use mathlib.Core.Path.{◌≡◌, refl, sym, ap, ◌∙◌}
 use mathlib.Core.Bool.{Bool, true, false, not}
 use mathlib.Core.List.{List, [], ◌∷◌, ◌++◌}
-use mathlib.Core.Logic.{◌⊎◌, inl, inr, ⊎_elim}
-use mathlib.Core.Option.{Option, none, some}
-use lib.ListN.{length, get_or}
+use mathlib.Core.Logic.{⊎_elim}
+use mathlib.Core.Option.{none, some}
 use borrow.Author.Tests.{not-false}
 use Rattle.refusal.specs.Table.{◌when◌, Answer, granted, refused, ◌or_else◌}
 use Rattle.refusal.specs.Laws.{not_refused, passed_all, none_holds}
 use Rattle.handle.specs.Bits.{MAX}
 use Rattle.handle.specs.declared.Place.{Place}
-use Rattle.id_tables.specs.Ids.{Ids, live, index_at, place_at}
+use Rattle.id_tables.specs.Ids.{Ids, live, place_at}
 use Rattle.id_tables.specs.Lookup.{reserved_new, place_got}
 use Rattle.id_tables.proofs.Laws.{got_live, got_new, got_parts, new_not_live}
 use Rattle.id_tables.proofs.Meaning.{lives}

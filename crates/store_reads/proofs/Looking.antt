@@ -1,7 +1,7 @@
 -- Get: the ways through its rule.
 -- Assumes nothing.
 use Prim.Native.Nat.{ℕ}
-use mathlib.Core.Path.{◌≡◌, refl, sym, ap, ◌∙◌}
+use mathlib.Core.Path.{◌≡◌, sym, ap, ◌∙◌}
 use Rattle.refusal.specs.Table.{Answer, ◌or_else◌}
 use Rattle.handle.specs.declared.Place.{Place}
 use Rattle.id_tables.proofs.Laws.{new_not_live}

@@ -1,13 +1,13 @@
 -- What the calls answer and leave, for callers: of components that are held, of those that are not, and of what lies elsewhere.
 -- Assumes nothing.
-use Prim.{Unit, tt}
+use Prim.{tt}
 use Prim.Native.Nat.{ℕ, ◌+◌, ◌≤◌, ◌<◌}
 use native.Mathlib.Omega.{arith}
 use native.Mathlib.Nat.{eq-or-lt_of_le}
 use mathlib.Core.Path.{◌≡◌, refl, sym, ap, ◌∙◌}
-use mathlib.Core.Bool.{Bool, true, false}
-use mathlib.Core.List.{List, [], ◌∷◌}
-use mathlib.Core.Logic.{◌⊎◌, inl, inr, ⊎_elim}
+use mathlib.Core.Bool.{true, false}
+use mathlib.Core.List.{List}
+use mathlib.Core.Logic.{inl, inr, ⊎_elim}
 use mathlib.Core.Option.{Option, none, some}
 use lib.ListN.{length, get_or, set}
 use borrow.Author.Tests.{lt-leb, eq-eqb}
@@ -20,14 +20,14 @@ use Rattle.id_tables.specs.Ids.{live, place_at}
 use Rattle.id_tables.specs.Lookup.{reserved_new}
 use Rattle.id_tables.proofs.Laws.{new_not_live}
 use Rattle.decl.specs.Decl.{Decl, archetypes, rows_of, first_column, types_of, size_of}
-use Rattle.decl.specs.Places.{column_start, cell_start}
+use Rattle.decl.specs.Places.{cell_start}
 use Rattle.decl.specs.Lookup.{column_of}
 use Rattle.decl.specs.declared.Column.TheVariants.{At, Missing}
 use Rattle.decl.specs.declared.Span.{Span}
 use Rattle.decl.proofs.Lists.{below_or_not}
 use Rattle.decl.proofs.Placing.{columns_apart, archetypes_apart, cells_apart, cell_from, cell_within}
 use Rattle.cells.specs.Cell.{cell, put}
-use Rattle.cells.proofs.Laws.{Apart, length_put, cell_put, cell_put_apart}
+use Rattle.cells.proofs.Laws.{Apart, cell_put, cell_put_apart}
 use Rattle.row_step.specs.Tables.{tables_of}
 use Rattle.column_entry.specs.Entry.{wrong_size}
 use Rattle.store_tables.specs.Store.{Store, with_rows, with_words, entry}
@@ -37,7 +37,7 @@ use Rattle.store_tables.specs.Kept.{Entered}
 use Rattle.store_tables.proofs.Places.{owned, not_owned, owns_means}
 use Rattle.store_reads.specs.declared.component.Cell.{Cell}
 use Rattle.store_reads.specs.Component.{◌and_then◌, place_rules, cell_in, component_at}
-use Rattle.store_reads.specs.Read.{cell_read, read_at, reading, bytes_at}
+use Rattle.store_reads.specs.Read.{cell_read, read_at, reading}
 use Rattle.store_reads.specs.Write.{cell_written, write_at}
 use Rattle.store_reads.specs.Words.{word_named, word_asked, word_stored, holding}
 use Rattle.store_reads.specs.Lookup.{place_found}

@@ -1,19 +1,17 @@
 -- Read: the ways through its rule, and what it grants.
 -- Assumes nothing.
-use Prim.{tt}
-use Prim.Native.Nat.{ℕ, ◌+◌, ◌/◌, ◌^◌, ◌≤◌, ◌<◌}
+use Prim.Native.Nat.{ℕ, ◌+◌, ◌/◌, ◌^◌, ◌≤◌}
 use native.Mathlib.Omega.{arith}
 use mathlib.Core.Path.{◌≡◌, refl, sym, ap, ◌∙◌}
 use mathlib.Core.Bool.{false}
 use mathlib.Core.List.{List, [], ◌∷◌}
 use borrow.Author.Tests.{eq-eqb, ne_eqb}
 use lib.ListN.{length, get_or}
-use Rattle.refusal.specs.Table.{◌when◌, Answer, granted, refused, ◌or_else◌, ◌otherwise◌}
+use Rattle.refusal.specs.Table.{◌when◌, Answer, granted, refused, ◌or_else◌}
 use Rattle.refusal.specs.Laws.{not_refused, value_of_lem}
 use Rattle.handle.specs.Bits.{generation_in, number_in}
 use Rattle.handle.specs.OnBits.{on_granted}
 use Rattle.borrow_word.specs.Word.{is_unique}
-use Rattle.decl.specs.Decl.{rows_of}
 use Rattle.cells.specs.Cell.{part_of as part_at}
 use Rattle.cells.proofs.Laws.{part_fits}
 use Rattle.store_tables.specs.Store.{Store, entry}

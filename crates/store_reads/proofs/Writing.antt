@@ -26,7 +26,7 @@ use Rattle.cells.proofs.Laws.{written_fits}
 use Rattle.row_step.specs.Tables.{tables_of}
 use Rattle.column_entry.specs.Entry.{wrong_size}
 use Rattle.store_tables.specs.Store.{Store, with_rows, entry}
-use Rattle.store_tables.specs.Rows.{archetype_of, row_of}
+use Rattle.store_tables.specs.Rows.{archetype_of}
 use Rattle.store_tables.specs.Kept.{Entered}
 use Rattle.store_tables.proofs.Entering.{entered, entered_right}
 use Rattle.store_reads.specs.declared.component.Cell.{Cell}

@@ -1,6 +1,6 @@
 -- Borrow and release of a column, named by archetype and type: 6, then 15, then what the word's rule says.
 use Prim.{Unit, tt}
-use Rattle.std.specs.Prelude.{ℕ, ◌+◌, false, List, [], ◌∷◌, ◌++◌, leb, get_or, set}
+use Rattle.std.specs.Prelude.{ℕ, ◌+◌, false, [], ◌∷◌, leb, get_or, set}
 use Rattle.refusal.specs.Number.{number_of}
 use Rattle.refusal.specs.Table.{◌when◌, Answer, granted, refused, ◌or_else◌}
 use Rattle.decl.specs.Decl.{Decl, archetypes, first_column, types_of}

@@ -5,7 +5,7 @@ use mathlib.Core.Path.{◌≡◌, ap}
 use mathlib.Core.List.{List}
 use Rattle.refusal.specs.Table.{Did}
 use Rattle.refusal.specs.Laws.{determined}
-use Rattle.id_tables.specs.Ids.{Ids, ids_of}
+use Rattle.id_tables.specs.Ids.{ids_of}
 use Rattle.ids.specs.declared.Given.{Given}
 use Rattle.ids.specs.Answers.{given_of, given_head}
 use Rattle.ids.proofs.Determined.{given_tells}

@@ -1,20 +1,17 @@
 -- What spawn grants and leaves, for callers that do not open its rule.
 -- Assumes nothing.
-use Prim.{tt}
 use Prim.Native.Nat.{ℕ, ◌<◌, ◌≤◌}
 use native.Mathlib.Omega.{arith}
-use mathlib.Core.Path.{◌≡◌, refl, sym, ap, ◌∙◌}
-use mathlib.Core.Bool.{Bool, true, false, ◌&&◌}
-use mathlib.Core.List.{List}
+use mathlib.Core.Path.{◌≡◌}
+use mathlib.Core.Bool.{true, false}
 use borrow.Author.Tests.{lt-ltb, le-ltb, lt-leb, leb-false, ltb-false, not-false}
-use Rattle.refusal.specs.Table.{granted, passing, ◌or_else◌}
+use Rattle.refusal.specs.Table.{◌or_else◌}
 use Rattle.refusal.specs.Laws.{none_holds}
-use Rattle.handle.specs.Bits.{MAX, place_of}
+use Rattle.handle.specs.Bits.{place_of}
 use Rattle.borrow_word.specs.Slice.{any_held}
 use Rattle.id_tables.specs.Head.{flushed}
-use Rattle.id_tables.specs.Ids.{Ids, room, damaged}
-use Rattle.id_tables.proofs.Meaning.{Undamaged, undamaged, not_damaged}
-use Rattle.ids.specs.Alloc.{last_pending}
+use Rattle.id_tables.specs.Ids.{room}
+use Rattle.id_tables.proofs.Meaning.{undamaged}
 use Rattle.ids.proofs.Passing.{AllocOk}
 use Rattle.decl.specs.Decl.{archetypes, rows_of}
 use Rattle.row_step.specs.Tables.{count_of}

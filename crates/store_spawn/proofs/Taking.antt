@@ -1,7 +1,7 @@
 -- The step of a spawn: the id layer gives the next number, which no rule forbids then, and that number takes the row.
 -- Assumes nothing.
 use Prim.{tt}
-use Prim.Native.Nat.{ℕ, ◌-◌}
+use Prim.Native.Nat.{ℕ}
 use native.Mathlib.Omega.{arith}
 use mathlib.Core.Path.{◌≡◌, refl, sym, ap, ◌∙◌}
 use mathlib.Core.List.{List}

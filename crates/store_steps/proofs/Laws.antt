@@ -16,7 +16,7 @@ use Rattle.row_step.specs.declared.Block.{Block}
 use Rattle.row_step.specs.Tables.{Rows, block_of, tables_of, number_in, count_of, last_of, appended, removed}
 use Rattle.row_step.proofs.Held.{row_removed_lem, moved_none, moved_some}
 use Rattle.store_steps.specs.Parts.{block_by, part_by}
-use Rattle.store_steps.specs.Seats.{Seats, seats_of, learnt, vacated_seats, filled, seated_rows}
+use Rattle.store_steps.specs.Seats.{Seats, seats_of, vacated_seats, filled, seated_rows}
 
 module _ (d : Decl) (a : ℕ) (span : Span) (p : span ≡ span_of d a) where
   pub block_by_lem : block_by d.rows span a ≡ block_of (first_row d a) (rows_of d a) (base_of d a)

@@ -2,7 +2,7 @@
 -- Assumes nothing.
 use Prim.{tt}
 use Prim.Native.Nat.{ℕ}
-use mathlib.Core.Path.{◌≡◌, refl, sym, ap, ◌∙◌}
+use mathlib.Core.Path.{◌≡◌, ◌∙◌}
 use mathlib.Core.Bool.{Bool, true, false, not}
 use mathlib.Core.List.{List, [], ◌∷◌, ◌++◌}
 use lib.Dec.{eqb}
@@ -11,9 +11,8 @@ use borrow.Author.Tests.{eq-eqb, ne_eqb, eqb-true, not-false}
 use Rattle.refusal.specs.Table.{Rule, ◌when◌, granted, refused, ◌or_else◌, passing}
 use Rattle.refusal.specs.Laws.{stop, go, both, none_holds}
 use Rattle.id_tables.specs.Head.{head_rules}
-use Rattle.id_tables.specs.Ids.{Ids, capacity, capacity_rules, length_rules}
-use Rattle.decl.specs.Decl.{Decl, columns}
-use Rattle.row_step.specs.Tables.{Rows}
+use Rattle.id_tables.specs.Ids.{capacity, capacity_rules, length_rules}
+use Rattle.decl.specs.Decl.{columns}
 use Rattle.column_entry.specs.Entry.{table_rules, count_rules}
 use Rattle.id_tables.proofs.Entering.{runs_ok}
 use Rattle.column_entry.proofs.Keeping.{tabled, counted}

@@ -1,9 +1,9 @@
 -- What a row that leaves does to every number: the one that falls into the hole is placed there, no other is touched.
 -- Assumes nothing.
-use Prim.Native.Nat.{ℕ, ◌-◌, ◌<◌, ◌≤◌}
+use Prim.Native.Nat.{ℕ, ◌<◌, ◌≤◌}
 use native.Mathlib.Omega.{arith}
 use mathlib.Core.Path.{◌≡◌, refl, sym, ap, ◌∙◌}
-use mathlib.Core.Bool.{Bool, true, false, not}
+use mathlib.Core.Bool.{Bool, true, false}
 use borrow.Author.Tests.{leb-false, eqb-true, eqb-false, not-false}
 use Rattle.handle.specs.Bits.{place_of}
 use Rattle.refusal.specs.Truth.{neither}
@@ -15,7 +15,7 @@ use Rattle.decl.specs.Decl.{sizes_of}
 use Rattle.row_step.specs.Tables.{count_of, last_of, removed}
 use Rattle.column_entry.specs.Entry.{block_in}
 use Rattle.store_tables.specs.Store.{Store}
-use Rattle.store_tables.specs.Rows.{archetype_of, row_of, last_number, is_last, moved_damaged, corrected, vacated}
+use Rattle.store_tables.specs.Rows.{archetype_of, row_of, last_number, is_last, moved_damaged, vacated}
 use Rattle.store_tables.specs.Kept.{Entered}
 
 -- the number of the last row, where it has its own place

@@ -1,5 +1,5 @@
 -- What passing the first tests gives a store call.
-use Rattle.std.specs.Prelude.{ℕ, ◌≡◌, length}
+use Rattle.std.specs.Prelude.{◌≡◌, length}
 use Rattle.id_tables.specs.Ids.{EntryOk}
 use Rattle.decl.specs.Decl.{columns}
 use Rattle.column_entry.specs.Kept.{Ready}

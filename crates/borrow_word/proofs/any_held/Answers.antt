@@ -1,8 +1,4 @@
-use Prim.Native.Nat.{◌-◌}
-use mathlib.Core.Path.{◌≡◌, refl, sym, ◌∙◌}
-use borrow.Author.Rules.{rules}
-use lib.ListN.{length, drop}
-use Rattle.borrow_word.specs.Slice.{any_held}
+use mathlib.Core.Path.{sym, ◌∙◌}
 use Rattle.borrow_word.proofs.Laws.{held_here, held_next, held_none}
 use Rattle.borrow_word.proofs.any_held.Goals as goal
 

@@ -1,10 +1,8 @@
 -- `borrow_word::any_held` meets its contract. The loop's invariant: what is left of the table decides. The measure is how much is left.
 use Prim.Native.Nat.{◌-◌}
-use mathlib.Core.Path.{◌≡◌, refl, sym, ◌∙◌}
-use borrow.Author.Rules.{rules}
+use mathlib.Core.Path.{◌≡◌}
 use lib.ListN.{length, drop}
 use Rattle.borrow_word.specs.Slice.{any_held}
-use Rattle.borrow_word.proofs.Laws.{held_here, held_next, held_none}
 use Rattle.borrow_word.proofs.any_held.Given as goal
 
 abbrev pub invariant-loop-i : goal.invariant-loop-i

@@ -1,5 +1,4 @@
 -- `borrow_word::release` meets its contract: each return rewrites with the tests that led there.
-use borrow.Author.Rules.{rules}
 use borrow.Author.Tests.{eq-eqb, ne_eqb}
 use Rattle.refusal.specs.Table.{◌or_else◌}
 use Rattle.borrow_word.specs.Word.{released_word}

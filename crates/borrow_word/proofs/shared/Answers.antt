@@ -4,7 +4,6 @@ use mathlib.Core.Path.{sym, ◌∙◌}
 use lib.Bits.{and_mask}
 use borrow.Author.Tests.{eq-eqb, ne_eqb}
 use Rattle.borrow_word.specs.Word.{shared_word}
-use borrow.Author.Rules.{rules}
 use Rattle.borrow_word.proofs.shared.Goals as goal
 
 pub returns-then-word-eq-COUNT : goal.returns-then-word-eq-COUNT

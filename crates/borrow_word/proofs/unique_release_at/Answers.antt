@@ -1,5 +1,4 @@
 -- `borrow_word::unique_release_at` meets its contract: no such position, or what `unique_release` says of the word there, stored.
-use borrow.Author.Rules.{rules}
 use Rattle.borrow_word.proofs.Laws.{past, through}
 use Rattle.borrow_word.proofs.unique_release_at.Goals as goal
 

@@ -1,9 +1,5 @@
-use Prim.Native.Nat.{◌-◌}
-use mathlib.Core.Path.{◌≡◌, refl, sym, ◌∙◌}
+use mathlib.Core.Path.{sym, ◌∙◌}
 use native.Mathlib.Omega.{arith}
-use borrow.Author.Rules.{rules}
-use lib.ListN.{length, drop}
-use Rattle.cells.specs.Line.{carried}
 use Rattle.cells.proofs.Lines.{carry_more, carry_none}
 use Rattle.cells.proofs.carry.Goals as goal
 

@@ -1,11 +1,8 @@
 -- `cells::carry` meets its contract. The loop's invariant: what is left of the columns decides. The measure is how many are left.
 use Prim.Native.Nat.{◌-◌}
-use mathlib.Core.Path.{◌≡◌, refl, sym, ◌∙◌}
-use native.Mathlib.Omega.{arith}
-use borrow.Author.Rules.{rules}
+use mathlib.Core.Path.{◌≡◌}
 use lib.ListN.{length, drop}
 use Rattle.cells.specs.Line.{carried}
-use Rattle.cells.proofs.Lines.{carry_more, carry_none}
 use Rattle.cells.proofs.carry.Given as goal
 
 abbrev pub invariant-loop-j : goal.invariant-loop-j

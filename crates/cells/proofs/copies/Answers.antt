@@ -1,6 +1,5 @@
 -- `cells::copies` meets its contract: by the order of the two runs, each return rewrites with what the tests said.
 use mathlib.Core.Path.{sym, ◌∙◌}
-use borrow.Author.Rules.{rules}
 use Rattle.cells.proofs.Laws.{upwards, downwards}
 use Rattle.cells.proofs.copies.Goals as goal
 

@@ -1,6 +1,5 @@
 -- `cells::copy` meets its contract: what `copies` said of the two runs decides.
 use mathlib.Core.Path.{sym, ◌∙◌}
-use borrow.Author.Rules.{rules}
 use Rattle.cells.proofs.Laws.{copies_told, copied_fits, copied_past}
 use Rattle.cells.proofs.copy.Goals as goal
 

@@ -1,10 +1,8 @@
-use Prim.Native.Nat.{◌≤◌, ◌-◌}
-use mathlib.Core.Path.{◌≡◌, refl}
+use mathlib.Core.Path.{refl}
 use native.Mathlib.Omega.{arith}
 use borrow.Author.Rules.{rules}
-use lib.ListN.{length, length-set}
-use Rattle.cells.specs.Cell.{cell}
-use Rattle.cells.proofs.Loops.{stored, stored_none, copy_more, copy_all}
+use lib.ListN.{length-set}
+use Rattle.cells.proofs.Loops.{stored_none, copy_more, copy_all}
 use Rattle.cells.proofs.copy_within.Goals as goal
 
 pub loop-i-init : goal.loop-i-init

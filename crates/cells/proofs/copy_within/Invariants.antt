@@ -1,11 +1,9 @@
 -- `cells::copy_within` meets its contract. The loop's invariant: the first i bytes are stored. The measure is how many are left.
 use Prim.Native.Nat.{◌≤◌, ◌-◌}
-use mathlib.Core.Path.{◌≡◌, refl}
-use native.Mathlib.Omega.{arith}
-use borrow.Author.Rules.{rules}
-use lib.ListN.{length, length-set}
+use mathlib.Core.Path.{◌≡◌}
+use lib.ListN.{length}
 use Rattle.cells.specs.Cell.{cell}
-use Rattle.cells.proofs.Loops.{stored, stored_none, copy_more, copy_all}
+use Rattle.cells.proofs.Loops.{stored}
 use Rattle.cells.proofs.copy_within.Given as goal
 
 abbrev pub invariant-loop-i : goal.invariant-loop-i

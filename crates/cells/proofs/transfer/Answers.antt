@@ -1,9 +1,5 @@
-use Prim.Native.Nat.{◌-◌}
-use mathlib.Core.Path.{◌≡◌, refl, sym, ◌∙◌}
+use mathlib.Core.Path.{sym, ◌∙◌}
 use native.Mathlib.Omega.{arith}
-use borrow.Author.Rules.{rules}
-use lib.ListN.{length, drop}
-use Rattle.cells.specs.Line.{transferred}
 use Rattle.cells.proofs.Lines.{transfer_more, transfer_none}
 use Rattle.cells.proofs.transfer.Goals as goal
 

@@ -1,11 +1,8 @@
 -- `cells::transfer` meets its contract. The loop's invariant: what is left of the columns decides. The measure is how many are left.
 use Prim.Native.Nat.{◌-◌}
-use mathlib.Core.Path.{◌≡◌, refl, sym, ◌∙◌}
-use native.Mathlib.Omega.{arith}
-use borrow.Author.Rules.{rules}
+use mathlib.Core.Path.{◌≡◌}
 use lib.ListN.{length, drop}
 use Rattle.cells.specs.Line.{transferred}
-use Rattle.cells.proofs.Lines.{transfer_more, transfer_none}
 use Rattle.cells.proofs.transfer.Given as goal
 
 abbrev pub invariant-loop-j : goal.invariant-loop-j

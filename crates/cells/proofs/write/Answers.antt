@@ -1,6 +1,5 @@
 -- `cells::write` meets its contract: what `within` said of the run decides.
 use mathlib.Core.Path.{sym, ◌∙◌}
-use borrow.Author.Rules.{rules}
 use borrow.Author.Tests.{leb-true, leb-false}
 use Rattle.cells.proofs.Laws.{written_fits, written_past}
 use Rattle.cells.proofs.write.Goals as goal

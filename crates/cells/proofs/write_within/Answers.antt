@@ -1,9 +1,8 @@
-use Prim.Native.Nat.{◌≤◌, ◌-◌}
-use mathlib.Core.Path.{◌≡◌, refl}
+use mathlib.Core.Path.{refl}
 use native.Mathlib.Omega.{arith}
 use borrow.Author.Rules.{rules}
-use lib.ListN.{length, length-set}
-use Rattle.cells.proofs.Loops.{stored, stored_none, stored_more, stored_all}
+use lib.ListN.{length-set}
+use Rattle.cells.proofs.Loops.{stored_none, stored_more, stored_all}
 use Rattle.cells.proofs.write_within.Goals as goal
 
 pub loop-i-init : goal.loop-i-init

@@ -1,10 +1,8 @@
 -- `cells::write_within` meets its contract. The loop's invariant: the first i bytes are stored. The measure is how many are left.
 use Prim.Native.Nat.{◌≤◌, ◌-◌}
-use mathlib.Core.Path.{◌≡◌, refl}
-use native.Mathlib.Omega.{arith}
-use borrow.Author.Rules.{rules}
-use lib.ListN.{length, length-set}
-use Rattle.cells.proofs.Loops.{stored, stored_none, stored_more, stored_all}
+use mathlib.Core.Path.{◌≡◌}
+use lib.ListN.{length}
+use Rattle.cells.proofs.Loops.{stored}
 use Rattle.cells.proofs.write_within.Given as goal
 
 abbrev pub invariant-loop-i : goal.invariant-loop-i

@@ -1,10 +1,6 @@
-use Prim.Native.Nat.{◌-◌, ◌≤◌}
-use mathlib.Core.Bool.{false}
-use mathlib.Core.Path.{◌≡◌, sym}
+use mathlib.Core.Path.{sym}
 use borrow.Author.Rules.{rules}
-use Rattle.decl.specs.Lists.{any_below}
 use Rattle.decl.proofs.Lists.{any_none, any_more, any_stop, any_done}
-use Rattle.column_entry.specs.Entry.{is_over}
 use Rattle.column_entry.proofs.Loops.{is_over_lem, not_over}
 use Rattle.column_entry.proofs.any_over.Goals as goal
 

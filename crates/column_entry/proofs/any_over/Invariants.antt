@@ -1,12 +1,9 @@
 -- `column_entry::any_over` meets its contract. The loop's invariant: no count so far is over. The measure is how many are left.
 use Prim.Native.Nat.{◌-◌, ◌≤◌}
 use mathlib.Core.Bool.{false}
-use mathlib.Core.Path.{◌≡◌, sym}
-use borrow.Author.Rules.{rules}
+use mathlib.Core.Path.{◌≡◌}
 use Rattle.decl.specs.Lists.{any_below}
-use Rattle.decl.proofs.Lists.{any_none, any_more, any_stop, any_done}
 use Rattle.column_entry.specs.Entry.{is_over}
-use Rattle.column_entry.proofs.Loops.{is_over_lem, not_over}
 use Rattle.column_entry.proofs.any_over.Given as goal
 
 abbrev pub invariant-loop-a : goal.invariant-loop-a

@@ -1,6 +1,5 @@
 -- `column_entry::count_of` meets its contract: past the end there is 0.
 use mathlib.Core.Path.{sym}
-use borrow.Author.Rules.{rules}
 use lib.ListN.{get_or-eq_default}
 use Rattle.column_entry.proofs.count_of.Goals as goal
 

@@ -1,7 +1,5 @@
 -- `column_entry::counts_tested` meets its contract: counts and rows are compared as far as there are both.
-use mathlib.Core.Path.{ap, ◌∙◌}
 use native.Mathlib.Omega.{arith}
-use borrow.Author.Rules.{rules}
 use Rattle.column_entry.proofs.Loops.{counts_over, counts_passed}
 use Rattle.column_entry.proofs.counts_tested.Goals as goal
 

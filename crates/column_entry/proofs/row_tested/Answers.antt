@@ -1,5 +1,4 @@
 -- `column_entry::row_tested` meets its contract: the archetype's test, then the row's.
-use borrow.Author.Rules.{rules}
 use Rattle.column_entry.proofs.Keeping.{no_archetype, no_row, row_there}
 use Rattle.column_entry.proofs.row_tested.Goals as goal
 

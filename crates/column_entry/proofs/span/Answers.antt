@@ -1,6 +1,5 @@
 -- `column_entry::span` meets its contract: what `span_of` answers, or nothing.
 use mathlib.Core.Path.{sym, ap, ◌∙◌}
-use borrow.Author.Rules.{rules}
 use Rattle.decl.specs.Places.{located_of}
 use Rattle.decl.specs.declared.Located.{Located}
 use Rattle.column_entry.specs.Entry.{span_or, span_in}

@@ -1,6 +1,5 @@
 -- `column_entry::tables_tested` meets its contract: the declaration's tests, then the lengths.
 use mathlib.Core.Path.{sym, ap, ◌∙◌}
-use borrow.Author.Rules.{rules}
 use Rattle.decl.specs.Places.{measured_of}
 use Rattle.column_entry.proofs.Keeping.{declaration_halts, lengths_told}
 use Rattle.column_entry.proofs.tables_tested.Goals as goal

@@ -1,5 +1,4 @@
 -- `column_entry::tested` meets its contract: the tables' tests, then the counts'.
-use borrow.Author.Rules.{rules}
 use Rattle.column_entry.specs.Entry.{entry_rules}
 use Rattle.refusal.specs.Laws.{told}
 use Rattle.refusal.specs.Chain.{stop, go}

@@ -1,9 +1,5 @@
-use Prim.Native.Nat.{◌-◌}
-use mathlib.Core.Path.{◌≡◌, refl, sym, ◌∙◌}
+use mathlib.Core.Path.{sym, ◌∙◌}
 use native.Mathlib.Omega.{arith}
-use borrow.Author.Rules.{rules}
-use lib.ListN.{length, drop}
-use Rattle.column_entry.specs.Entry.{wrong_size}
 use Rattle.column_entry.proofs.Loops.{size_short, size_none, size_here, size_next}
 use Rattle.column_entry.proofs.wrong_size.Goals as goal
 

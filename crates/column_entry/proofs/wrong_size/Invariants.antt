@@ -1,11 +1,8 @@
 -- `column_entry::wrong_size` meets its contract. The loop's invariant: what is left of the columns decides. The measure is how many are left.
 use Prim.Native.Nat.{◌-◌}
-use mathlib.Core.Path.{◌≡◌, refl, sym, ◌∙◌}
-use native.Mathlib.Omega.{arith}
-use borrow.Author.Rules.{rules}
+use mathlib.Core.Path.{◌≡◌}
 use lib.ListN.{length, drop}
 use Rattle.column_entry.specs.Entry.{wrong_size}
-use Rattle.column_entry.proofs.Loops.{size_short, size_none, size_here, size_next}
 use Rattle.column_entry.proofs.wrong_size.Given as goal
 
 abbrev pub invariant-loop-p : goal.invariant-loop-p

@@ -1,5 +1,4 @@
 -- `columns::allocate` meets its contract: the tests decide, or the step does what the rule grants.
-use borrow.Author.Rules.{rules}
 use Rattle.refusal.specs.Laws.{told}
 use Rattle.columns.proofs.Answers.{allocate_asked, allocate_did, allocate_refused}
 use Rattle.columns.proofs.allocate.Goals as goal

@@ -1,7 +1,6 @@
 -- `columns::allocate_step` meets its contract: the number is stored in the archetype's first unused row.
 use mathlib.Core.Path.{refl}
 use native.Mathlib.Omega.{arith}
-use borrow.Author.Rules.{rules}
 use Rattle.columns.proofs.Places.{first_told}
 use Rattle.columns.proofs.allocate_step.Goals as goal
 

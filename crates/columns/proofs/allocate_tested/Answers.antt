@@ -1,5 +1,4 @@
 -- `columns::allocate_tested` meets its contract: the entry's tests, the archetype's, then room for a row.
-use borrow.Author.Rules.{rules}
 use Rattle.refusal.specs.Laws.{told}
 use Rattle.refusal.specs.Chain.{stop, go}
 use Rattle.columns.specs.Calls.{allocate_rules}

@@ -1,7 +1,6 @@
 -- `columns::cell_of` meets its contract: the cell, found in the archetype's own types and sizes.
 -- the archetype's columns are within the types and the sizes
 use native.Mathlib.Omega.{arith}
-use borrow.Author.Rules.{rules}
 use Prim.Native.Nat.{◌+◌, ◌≤◌}
 use lib.ListN.{length}
 use Rattle.columns.proofs.Places.{columns_fit, types_fit}

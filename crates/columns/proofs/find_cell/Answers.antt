@@ -1,7 +1,6 @@
 -- `columns::find_cell` meets its contract: the column that the search finds, and the line's cell in it.
 use mathlib.Core.Path.{sym}
 use native.Mathlib.Omega.{arith}
-use borrow.Author.Rules.{rules}
 use lib.Seq.{length-take-le}
 use Rattle.columns.proofs.Steps.{cell_missing, cell_none, cell_some}
 use Rattle.columns.proofs.find_cell.Goals as goal

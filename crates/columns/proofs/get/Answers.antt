@@ -1,5 +1,4 @@
 -- `columns::get` meets its contract: the tests decide, or the cell that is found is answered.
-use borrow.Author.Rules.{rules}
 use Rattle.refusal.specs.Laws.{told}
 use Rattle.columns.proofs.Answers.{get_asked, get_refused, get_told}
 use Rattle.columns.proofs.get.Goals as goal

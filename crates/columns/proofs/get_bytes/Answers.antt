@@ -1,6 +1,5 @@
 -- `columns::get_bytes` meets its contract: the part that `get` answers, or none.
 use mathlib.Core.Path.{sym, ap, ◌∙◌}
-use borrow.Author.Rules.{rules}
 use Rattle.columns.specs.Calls.{found_of}
 use Rattle.columns.proofs.Answers.{got_empty, got_part}
 use Rattle.columns.proofs.get_bytes.Goals as goal

@@ -1,5 +1,4 @@
 -- `columns::held_tested` meets its contract: the entry's tests, then the row's.
-use borrow.Author.Rules.{rules}
 use Rattle.refusal.specs.Laws.{told}
 use Rattle.refusal.specs.Chain.{stop, go}
 use Rattle.columns.specs.Calls.{held_rules}

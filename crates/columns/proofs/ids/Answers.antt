@@ -1,5 +1,4 @@
 -- `columns::ids` meets its contract: the tests decide, or the archetype's part is answered.
-use borrow.Author.Rules.{rules}
 use Rattle.refusal.specs.Laws.{told}
 use Rattle.columns.proofs.Answers.{ids_refused, ids_told}
 use Rattle.columns.proofs.ids.Goals as goal

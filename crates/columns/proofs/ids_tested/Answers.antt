@@ -1,5 +1,4 @@
 -- `columns::ids_tested` meets its contract: the entry's tests, then the archetype's.
-use borrow.Author.Rules.{rules}
 use borrow.Author.Tests.{le-leb, lt-leb}
 use Rattle.refusal.specs.Laws.{told}
 use Rattle.refusal.specs.Chain.{stop, go, applies, onward, through}

@@ -1,5 +1,4 @@
 -- `columns::move_out` meets its contract: the tests decide, or the two steps do what the rule grants.
-use borrow.Author.Rules.{rules}
 use Rattle.refusal.specs.Laws.{told}
 use Rattle.columns.proofs.Answers.{move_refused, move_there, move_asked, move_did}
 use Rattle.columns.proofs.move_out.Goals as goal

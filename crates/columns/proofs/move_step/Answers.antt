@@ -1,7 +1,6 @@
 -- `columns::move_step` meets its contract: the row's cells, moved to a run of its width.
 -- the archetype's columns are within the sizes
 use native.Mathlib.Omega.{arith}
-use borrow.Author.Rules.{rules}
 use Prim.Native.Nat.{◌+◌, ◌≤◌}
 use lib.ListN.{length}
 use Rattle.columns.proofs.Places.{columns_fit}

@@ -1,5 +1,4 @@
 -- `columns::move_tested` meets its contract: the tables' tests, the output's, the counts' and the row's, in this order.
-use borrow.Author.Rules.{rules}
 use Rattle.refusal.specs.Laws.{told}
 use Rattle.refusal.specs.Chain.{stop, go}
 use Rattle.column_entry.proofs.Keeping.{tabled}

@@ -1,6 +1,5 @@
 -- `columns::put` meets its contract: the tests decide, then whether the column is there.
 use mathlib.Core.Path.{sym, ap, ◌∙◌}
-use borrow.Author.Rules.{rules}
 use Rattle.refusal.specs.Laws.{told}
 use Rattle.columns.specs.Calls.{found_of}
 use Rattle.columns.proofs.Answers.{put_refused, put_asked, put_missing, put_did}

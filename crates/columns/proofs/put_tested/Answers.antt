@@ -1,5 +1,4 @@
 -- `columns::put_tested` meets its contract: the tables' tests, the value's, the counts' and the row's, in this order.
-use borrow.Author.Rules.{rules}
 use Rattle.refusal.specs.Laws.{told}
 use Rattle.refusal.specs.Chain.{stop, go}
 use Rattle.columns.specs.Calls.{put_rules}

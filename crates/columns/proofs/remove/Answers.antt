@@ -1,5 +1,4 @@
 -- `columns::remove` meets its contract: the tests decide, or the step does what the rule grants.
-use borrow.Author.Rules.{rules}
 use Rattle.refusal.specs.Laws.{told}
 use Rattle.columns.proofs.Answers.{held_there, remove_refused, remove_did}
 use Rattle.columns.proofs.remove.Goals as goal

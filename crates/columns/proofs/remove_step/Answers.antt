@@ -1,7 +1,6 @@
 -- `columns::remove_step` meets its contract: the step over the archetype's own part of each table.
 -- the archetype's columns are within the sizes
 use native.Mathlib.Omega.{arith}
-use borrow.Author.Rules.{rules}
 use Prim.Native.Nat.{◌+◌, ◌≤◌}
 use lib.ListN.{length}
 use Rattle.columns.proofs.Places.{columns_fit}

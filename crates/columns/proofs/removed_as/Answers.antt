@@ -1,6 +1,5 @@
 -- `columns::removed_as` meets its contract: the moved number, or that the row was last.
 use mathlib.Core.Path.{sym, ap}
-use borrow.Author.Rules.{rules}
 use Rattle.refusal.specs.Table.{granted}
 use Rattle.row_step.specs.Tables.{moved_of}
 use Rattle.row_step.specs.declared.Moved.{Moved}

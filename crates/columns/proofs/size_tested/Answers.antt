@@ -1,6 +1,5 @@
 -- `columns::size_tested` meets its contract: only of an archetype that is declared is the size of a type compared.
 use mathlib.Core.Path.{sym, ◌∙◌}
-use borrow.Author.Rules.{rules}
 use Rattle.columns.proofs.Tests.{size_untested, size_wrong, size_right}
 use Rattle.columns.proofs.size_tested.Goals as goal
 

@@ -1,5 +1,4 @@
 -- `columns::width_tested` meets its contract: only of an archetype that is declared is the row's width compared.
-use borrow.Author.Rules.{rules}
 use Rattle.columns.proofs.Tests.{width_untested, width_wrong, width_right}
 use Rattle.columns.proofs.width_tested.Goals as goal
 

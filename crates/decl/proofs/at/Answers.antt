@@ -1,7 +1,6 @@
 -- `decl::at` meets its contract: past the end there is 0.
 use mathlib.Core.Path.{sym}
 use native.Mathlib.Omega.{arith}
-use borrow.Author.Rules.{rules}
 use lib.ListN.{get_or-eq_default}
 use Rattle.decl.proofs.at.Goals as goal
 

@@ -1,7 +1,6 @@
 -- `decl::column_of` meets its contract: the declaration's tests, the archetype's, then what the search finds.
 use mathlib.Core.Path.{sym, ap, ◌∙◌}
 use native.Mathlib.Omega.{arith}
-use borrow.Author.Rules.{rules}
 use lib.ListN.{length-take}
 use lib.Seq.{length-take-le}
 use Rattle.refusal.specs.Table.{test_of}

@@ -1,6 +1,5 @@
 -- `decl::find` meets its contract: a search of the whole takes at most as many steps as there are types.
 use native.Mathlib.Omega.{arith}
-use borrow.Author.Rules.{rules}
 use lib.ListN.{length}
 use Rattle.decl.specs.Lookup.{searched}
 use Rattle.decl.proofs.find.Goals as goal

@@ -1,6 +1,5 @@
 -- `decl::part_of` meets its contract: a limit that is passed decides, and where none is the part is told.
 use native.Mathlib.Omega.{arith}
-use borrow.Author.Rules.{rules}
 use Rattle.decl.proofs.Spanning.{wide_refused, long_refused, past_refused, all_fit, part_bytes}
 use Rattle.decl.proofs.part_of.Goals as goal
 

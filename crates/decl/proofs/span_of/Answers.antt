@@ -1,13 +1,6 @@
-use Prim.Native.Nat.{◌-◌, ◌≤◌}
-use mathlib.Core.Bool.{false}
-use mathlib.Core.Path.{◌≡◌}
 use native.Mathlib.Omega.{arith}
-use borrow.Author.Rules.{rules}
-use Rattle.decl.specs.Lists.{any_below}
-use Rattle.decl.specs.Decl.{decl_of}
-use Rattle.decl.specs.Places.{outgrown}
 use Rattle.decl.proofs.Lists.{any_none, any_done}
-use Rattle.decl.proofs.Counting.{Counted, counted_start, counted_done}
+use Rattle.decl.proofs.Counting.{counted_start, counted_done}
 use Rattle.decl.proofs.Spanning.{span_place, span_many, span_grown, part_small, own_grown, own_fits, own_next, own_told}
 use Rattle.decl.proofs.span_of.Goals as goal
 

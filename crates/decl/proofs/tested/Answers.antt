@@ -1,6 +1,5 @@
 -- `decl::tested` meets its contract: totals are answered where the tests pass.
 use mathlib.Core.Path.{sym, ap, ◌∙◌}
-use borrow.Author.Rules.{rules}
 use Rattle.decl.specs.Places.{measured_of}
 use Rattle.decl.proofs.Measuring.{measure_passed, measure_refused}
 use Rattle.decl.proofs.tested.Goals as goal

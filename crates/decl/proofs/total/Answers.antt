@@ -1,9 +1,6 @@
-use Prim.Native.Nat.{◌-◌, ◌*◌, ◌≤◌}
-use mathlib.Core.Path.{◌≡◌, sym, ◌∙◌}
+use mathlib.Core.Path.{sym, ◌∙◌}
 use native.Mathlib.Omega.{arith}
 use borrow.Author.Rules.{rules}
-use lib.ListN.{length}
-use Rattle.decl.specs.Lists.{first_of}
 use Rattle.decl.proofs.Lists.{first_none, first_step, first_all}
 use Rattle.decl.proofs.total.Goals as goal
 

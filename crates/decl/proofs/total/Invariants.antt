@@ -1,11 +1,8 @@
 -- `decl::total` meets its contract. The loop's invariant: the sum so far is that of the first numbers, each of 32 bits. The measure is how much is left.
 use Prim.Native.Nat.{◌-◌, ◌*◌, ◌≤◌}
-use mathlib.Core.Path.{◌≡◌, sym, ◌∙◌}
-use native.Mathlib.Omega.{arith}
-use borrow.Author.Rules.{rules}
+use mathlib.Core.Path.{◌≡◌}
 use lib.ListN.{length}
 use Rattle.decl.specs.Lists.{first_of}
-use Rattle.decl.proofs.Lists.{first_none, first_step, first_all}
 use Rattle.decl.proofs.total.Given as goal
 
 abbrev pub invariant-loop-k : goal.invariant-loop-k

@@ -1,6 +1,5 @@
 -- `decl::totals_of` meets its contract: what the quick look settles, else what the tests say, and then the span of all archetypes.
 use mathlib.Core.Path.{sym, ap, ◌∙◌}
-use borrow.Author.Rules.{rules}
 use Rattle.refusal.specs.Laws.{told}
 use Rattle.decl.specs.Places.{located_of}
 use Rattle.decl.proofs.Measuring.{settles, measure_halts, span_measures, span_refused}

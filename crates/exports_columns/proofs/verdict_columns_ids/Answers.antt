@@ -1,5 +1,4 @@
 -- `exports_columns::verdict_columns_ids` meets its contract.
-use borrow.Author.Rules.{rules}
 use Rattle.crossing.proofs.Telling.{retold}
 use Rattle.exports_columns.proofs.verdict_columns_ids.Goals as goal
 

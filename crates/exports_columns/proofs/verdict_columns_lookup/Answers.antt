@@ -1,5 +1,4 @@
 -- `exports_columns::verdict_columns_lookup` meets its contract.
-use borrow.Author.Rules.{rules}
 use Rattle.crossing.proofs.Telling.{retold}
 use Rattle.exports_columns.proofs.verdict_columns_lookup.Goals as goal
 

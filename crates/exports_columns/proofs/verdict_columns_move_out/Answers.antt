@@ -1,5 +1,4 @@
 -- `exports_columns::verdict_columns_move_out` meets its contract.
-use borrow.Author.Rules.{rules}
 use Rattle.crossing.proofs.Telling.{crossed}
 use Rattle.exports_columns.proofs.verdict_columns_move_out.Goals as goal
 

@@ -1,5 +1,4 @@
 -- `exports_columns::verdict_columns_put` meets its contract.
-use borrow.Author.Rules.{rules}
 use Rattle.crossing.proofs.Telling.{passed}
 use Rattle.exports_columns.proofs.verdict_columns_put.Goals as goal
 

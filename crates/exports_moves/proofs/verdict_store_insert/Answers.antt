@@ -1,6 +1,5 @@
 -- `exports_moves::verdict_store_insert` meets its contract.
 use native.Mathlib.Omega.{arith}
-use borrow.Author.Rules.{rules}
 use Rattle.crossing.proofs.Telling.{passed}
 use Rattle.exports_moves.proofs.verdict_store_insert.Goals as goal
 

@@ -1,6 +1,5 @@
 -- `exports_moves::verdict_store_spawn_at` meets its contract.
 use native.Mathlib.Omega.{arith}
-use borrow.Author.Rules.{rules}
 use Rattle.exports_store.proofs.Store.{passed_store}
 use Rattle.exports_moves.proofs.verdict_store_spawn_at.Goals as goal
 

@@ -1,5 +1,4 @@
 -- `exports_reads::verdict_store_borrow` meets its contract.
-use borrow.Author.Rules.{rules}
 use Rattle.crossing.proofs.Telling.{passed}
 use Rattle.exports_reads.proofs.verdict_store_borrow.Goals as goal
 

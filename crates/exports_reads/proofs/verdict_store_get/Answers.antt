@@ -1,5 +1,4 @@
 -- `exports_reads::verdict_store_get` meets its contract.
-use borrow.Author.Rules.{rules}
 use Rattle.crossing.proofs.Telling.{retold}
 use Rattle.exports_reads.proofs.verdict_store_get.Goals as goal
 

@@ -1,5 +1,4 @@
 -- `exports_reserve::verdict_store_freelist` meets its contract.
-use borrow.Author.Rules.{rules}
 use Rattle.crossing.proofs.Telling.{crossed}
 use Rattle.exports_reserve.proofs.verdict_store_freelist.Goals as goal
 

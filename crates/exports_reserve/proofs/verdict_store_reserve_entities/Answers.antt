@@ -1,5 +1,4 @@
 -- `exports_reserve::verdict_store_reserve_entities` meets its contract.
-use borrow.Author.Rules.{rules}
 use Rattle.exports_store.proofs.Store.{passed_store_out}
 use Rattle.exports_reserve.proofs.verdict_store_reserve_entities.Goals as goal
 

@@ -1,5 +1,4 @@
 -- `exports_reserve::verdict_store_reserve_entity` meets its contract.
-use borrow.Author.Rules.{rules}
 use Rattle.exports_store.proofs.Store.{crossed_store}
 use Rattle.exports_reserve.proofs.verdict_store_reserve_entity.Goals as goal
 

@@ -1,6 +1,5 @@
 -- `exports_store::verdict_store_despawn` meets its contract.
 use native.Mathlib.Omega.{arith}
-use borrow.Author.Rules.{rules}
 use Rattle.exports_store.proofs.Store.{passed_store}
 use Rattle.exports_store.proofs.verdict_store_despawn.Goals as goal
 

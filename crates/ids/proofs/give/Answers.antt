@@ -1,7 +1,6 @@
 -- `ids::give` meets its contract: a generation that is not 0 makes a handle.
 use mathlib.Core.Path.{ap}
 use native.Mathlib.Omega.{arith}
-use borrow.Author.Rules.{rules}
 use borrow.Author.Tests.{eqb-true}
 use Rattle.handle.specs.RoundTrip.{same_handle, new_good, new_bad}
 use Rattle.handle.specs.declared.Handle.{Handle}

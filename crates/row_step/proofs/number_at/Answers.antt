@@ -1,5 +1,4 @@
 -- `row_step::number_at` meets its contract: the room past the first row is compared, so that no sum wraps.
-use borrow.Author.Rules.{rules}
 use Rattle.row_step.proofs.Steps.{first_past, row_past}
 use Rattle.row_step.proofs.number_at.Goals as goal
 

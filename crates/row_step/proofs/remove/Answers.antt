@@ -1,5 +1,4 @@
 -- `row_step::remove` meets its contract: no such row, the last row, or another, over which the last is copied.
-use borrow.Author.Rules.{rules}
 use Rattle.row_step.proofs.Steps.{no_archetype, no_row, last_row, other_row}
 use Rattle.row_step.proofs.remove.Goals as goal
 

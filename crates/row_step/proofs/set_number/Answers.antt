@@ -1,5 +1,4 @@
 -- `row_step::set_number` meets its contract: the room past the first row is compared, so that no sum wraps.
-use borrow.Author.Rules.{rules}
 use Rattle.row_step.proofs.Steps.{set_first_past, set_row_past}
 use Rattle.row_step.proofs.set_number.Goals as goal
 

@@ -1,9 +1,7 @@
 -- `store_despawn::despawn` meets its contract: its tests refuse, or the row has left.
 use native.Mathlib.Omega.{arith}
-use mathlib.Core.Path.{refl}
 use Rattle.refusal.specs.Laws.{refuse}
 use Rattle.store_despawn.proofs.Ending.{refused_so, ends}
-use borrow.Author.Rules.{rules}
 use Rattle.store_despawn.proofs.despawn.Goals as goal
 
 pub returns-in-Refused : goal.returns-in-Refused

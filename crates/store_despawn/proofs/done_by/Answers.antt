@@ -1,5 +1,4 @@
 -- `store_despawn::done_by` meets its contract: each answer's head is handed on.
-use borrow.Author.Rules.{rules}
 use Rattle.store_despawn.proofs.done_by.Goals as goal
 
 pub returns-in-From : goal.returns-in-From

@@ -1,7 +1,6 @@
 -- `store_despawn::leave` meets its contract: the row has left, and the number is freed.
 use native.Mathlib.Omega.{arith}
 use Rattle.store_despawn.proofs.Ending.{left_by}
-use borrow.Author.Rules.{rules}
 use Rattle.store_despawn.proofs.leave.Goals as goal
 
 pub shape_of-generations : goal.shape_of-generations

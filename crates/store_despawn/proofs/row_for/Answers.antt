@@ -2,7 +2,6 @@
 use Rattle.refusal.specs.Laws.{told}
 use Rattle.store_tables.proofs.Entering.{entered}
 use Rattle.store_despawn.proofs.Ending.{refused_first, refused_zero, row_found}
-use borrow.Author.Rules.{rules}
 use Rattle.store_despawn.proofs.row_for.Goals as goal
 
 pub returns-in-Refused : goal.returns-in-Refused

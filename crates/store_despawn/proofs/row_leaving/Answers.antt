@@ -1,6 +1,5 @@
 -- `store_despawn::row_leaving` meets its contract: the entity is refused, or each return is a way through what is left to test.
 use mathlib.Core.Path.{sym, ◌∙◌}
-use borrow.Author.Rules.{rules}
 use Rattle.store_tables.proofs.Entities.{entity_said}
 use Rattle.store_despawn.proofs.Testing.{unfit, held, none_live, moved_damaged_lem, leaves}
 use Rattle.store_despawn.proofs.row_leaving.Goals as goal

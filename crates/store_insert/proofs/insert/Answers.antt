@@ -1,7 +1,6 @@
 -- `store_insert::insert` meets its contract: the first tests, the bits, the entity, then the step.
 use native.Mathlib.Omega.{arith}
-use mathlib.Core.Path.{refl, ◌∙◌}
-use borrow.Author.Rules.{rules}
+use mathlib.Core.Path.{◌∙◌}
 use Rattle.refusal.specs.Laws.{refuse, via, told}
 use Rattle.store_tables.proofs.Entering.{entered}
 use Rattle.store_tables.proofs.Entities.{entity_said}

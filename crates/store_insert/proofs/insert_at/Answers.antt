@@ -1,7 +1,5 @@
 -- `store_insert::insert_at` meets its contract: the tests refuse, the component is overwritten, or the row has moved.
 use native.Mathlib.Omega.{arith}
-use mathlib.Core.Path.{refl}
-use borrow.Author.Rules.{rules}
 use Rattle.refusal.specs.Laws.{refuse}
 use Rattle.store_insert.proofs.Coming.{way_said, stays, over_there, over_sized, is_over_lem, may_move, from_there, to_there, has_come}
 use Rattle.store_insert.proofs.insert_at.Goals as goal

@@ -1,6 +1,5 @@
 -- `store_insert::overwrite` meets its contract: the cell of the component, and the value in it.
 use native.Mathlib.Omega.{arith}
-use borrow.Author.Rules.{rules}
 use Rattle.store_insert.proofs.Coming.{over_room, wrote}
 use Rattle.store_insert.proofs.overwrite.Goals as goal
 

@@ -2,7 +2,6 @@
 use mathlib.Core.Path.{refl}
 use native.Mathlib.Omega.{arith}
 use Rattle.store_moves.proofs.Moving.{column_small, took_in}
-use borrow.Author.Rules.{rules}
 use Rattle.store_insert.proofs.take_in.Goals as goal
 
 pub overflow_add-there : goal.overflow_add-there

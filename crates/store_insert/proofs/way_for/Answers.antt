@@ -5,7 +5,6 @@ use Rattle.refusal.specs.Laws.{told}
 use Rattle.store_moves.specs.declared.target.Change.TheVariants.{Added}
 use Rattle.store_moves.proofs.Owning.{found_small}
 use Rattle.store_insert.proofs.Testing.{held, over, no_target, cannot, goes}
-use borrow.Author.Rules.{rules}
 use Rattle.store_insert.proofs.way_for.Goals as goal
 
 pub returns-then-any_held : goal.returns-then-any_held

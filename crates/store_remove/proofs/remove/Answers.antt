@@ -1,7 +1,6 @@
 -- `store_remove::remove` meets its contract: the first tests, the bits, the entity, then the step.
 use native.Mathlib.Omega.{arith}
-use mathlib.Core.Path.{refl, ◌∙◌}
-use borrow.Author.Rules.{rules}
+use mathlib.Core.Path.{◌∙◌}
 use Rattle.refusal.specs.Laws.{refuse, via, told}
 use Rattle.handle.specs.OnBits.{on_first, on_zero, on_good}
 use Rattle.store_tables.proofs.Entering.{entered}

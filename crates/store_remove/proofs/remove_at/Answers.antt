@@ -1,7 +1,5 @@
 -- `store_remove::remove_at` meets its contract: the tests refuse, or the row has moved.
 use native.Mathlib.Omega.{arith}
-use mathlib.Core.Path.{refl}
-use borrow.Author.Rules.{rules}
 use Rattle.refusal.specs.Laws.{refuse}
 use Rattle.store_remove.proofs.Leaving.{way_said, stays, may_move, from_there, has_left}
 use Rattle.store_remove.proofs.remove_at.Goals as goal

@@ -2,7 +2,6 @@
 use mathlib.Core.Path.{refl}
 use native.Mathlib.Omega.{arith}
 use Rattle.store_moves.proofs.Moving.{next_small, took_out}
-use borrow.Author.Rules.{rules}
 use Rattle.store_remove.proofs.take_out.Goals as goal
 
 pub overflow_add-column : goal.overflow_add-column

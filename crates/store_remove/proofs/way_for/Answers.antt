@@ -4,7 +4,6 @@ use Rattle.refusal.specs.Laws.{told}
 use Rattle.store_moves.specs.declared.target.Change.TheVariants.{Taken}
 use Rattle.store_moves.proofs.Owning.{found_small}
 use Rattle.store_remove.proofs.Testing.{not_held, no_target, cannot, goes}
-use borrow.Author.Rules.{rules}
 use Rattle.store_remove.proofs.way_for.Goals as goal
 
 pub returns-in_default : goal.returns-in_default

@@ -1,5 +1,4 @@
 -- `store_reserve::freelist` meets its contract: past the first tests, what the id layer says.
-use borrow.Author.Rules.{rules}
 use Rattle.refusal.specs.Laws.{refuse, via, told, halted, past}
 use Rattle.store_reserve.specs.Reserve.{listing_free}
 use Rattle.store_reserve.proofs.freelist.Goals as goal

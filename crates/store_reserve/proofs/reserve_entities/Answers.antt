@@ -1,5 +1,4 @@
 -- `store_reserve::reserve_entities` meets its contract: past the first tests, what the id layer says.
-use borrow.Author.Rules.{rules}
 use Rattle.refusal.specs.Laws.{refuse, via, told, halted, past}
 use Rattle.store_reserve.specs.Reserve.{reserving_many}
 use Rattle.store_reserve.proofs.Lifting.{did_within}

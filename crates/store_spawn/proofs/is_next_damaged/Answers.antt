@@ -1,6 +1,5 @@
 -- `store_spawn::is_next_damaged` meets its contract: none is pending, or the last is looked at.
 use Rattle.store_spawn.proofs.Testing.{new_next, last_next}
-use borrow.Author.Rules.{rules}
 use Rattle.store_spawn.proofs.is_next_damaged.Goals as goal
 
 pub returns-then-head-eq0 : goal.returns-then-head-eq0

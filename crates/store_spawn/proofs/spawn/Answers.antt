@@ -4,8 +4,7 @@ use Rattle.store_spawn.proofs.Taking.{first_refuse, then_refuse, then_grant, spa
 use Rattle.store_tables.proofs.Running.{first_tests}
 use Rattle.store_tables.proofs.Entering.{entered}
 use Rattle.refusal.specs.Laws.{refuse, via, told}
-use mathlib.Core.Path.{refl, ◌∙◌}
-use borrow.Author.Rules.{rules}
+use mathlib.Core.Path.{◌∙◌}
 use Rattle.store_spawn.proofs.spawn.Goals as goal
 
 pub returns-in-Refused : goal.returns-in-Refused

@@ -4,7 +4,6 @@ use mathlib.Core.Bool.{not}
 use Rattle.store_spawn.proofs.Testing.{unflushed, undeclared, held, no_number, no_row, next_bad, passes}
 use borrow.Author.Tests.{not-true, not-false}
 use mathlib.Core.Path.{sym, ◌∙◌}
-use borrow.Author.Rules.{rules}
 use Rattle.store_spawn.proofs.spawn_tested.Goals as goal
 
 pub returns-then-not-is_flushed : goal.returns-then-not-is_flushed

@@ -1,8 +1,6 @@
 -- `store_spawn::take_row` meets its contract: the next number is given, and takes the row.
 use native.Mathlib.Omega.{arith}
-use mathlib.Core.Path.{refl}
 use Rattle.store_spawn.proofs.Taking.{gives_there, has_spawned}
-use borrow.Author.Rules.{rules}
 use Rattle.store_spawn.proofs.take_row.Goals as goal
 
 pub shape_of-generations-in_default : goal.shape_of-generations-in_default

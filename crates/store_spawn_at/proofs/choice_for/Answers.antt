@@ -4,7 +4,6 @@ use Rattle.refusal.specs.Laws.{told}
 use Rattle.store_tables.proofs.Running.{first_tests}
 use Rattle.store_tables.proofs.Entering.{entered}
 use Rattle.store_spawn_at.proofs.Taking.{refused_first, refused_zero, number_found}
-use borrow.Author.Rules.{rules}
 use Rattle.store_spawn_at.proofs.choice_for.Goals as goal
 
 pub returns-in-Refused : goal.returns-in-Refused

@@ -5,7 +5,6 @@ use Rattle.store_spawn_at.proofs.Testing.{unflushed, undeclared, strays, held, n
 use Rattle.store_spawn_at.proofs.Taking.{refuses, grants}
 use borrow.Author.Tests.{not-true, not-false}
 use mathlib.Core.Path.{sym, ◌∙◌}
-use borrow.Author.Rules.{rules}
 use Rattle.store_spawn_at.proofs.choose.Goals as goal
 
 pub standing_of-standing-requires : goal.standing_of-standing-requires

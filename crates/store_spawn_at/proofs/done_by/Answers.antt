@@ -1,5 +1,4 @@
 -- `store_spawn_at::done_by` meets its contract: each answer's head is handed on.
-use borrow.Author.Rules.{rules}
 use Rattle.store_spawn_at.proofs.done_by.Goals as goal
 
 pub returns-in-Fresh : goal.returns-in-Fresh

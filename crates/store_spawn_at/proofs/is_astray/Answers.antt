@@ -1,5 +1,4 @@
 -- `store_spawn_at::is_astray` meets its contract: each case is told.
-use borrow.Author.Rules.{rules}
 use Rattle.store_spawn_at.proofs.is_astray.Goals as goal
 
 pub returns-in-Astray : goal.returns-in-Astray

@@ -1,6 +1,5 @@
 -- `store_spawn_at::is_full` meets its contract: a row that leaves makes room, and else the counts decide.
 use mathlib.Core.Path.{sym, ◌∙◌}
-use borrow.Author.Rules.{rules}
 use Rattle.store_spawn_at.proofs.is_full.Goals as goal
 
 pub returns-then-is_leaving : goal.returns-then-is_leaving

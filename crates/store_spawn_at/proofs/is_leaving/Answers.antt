@@ -1,5 +1,4 @@
 -- `store_spawn_at::is_leaving` meets its contract: each case is told.
-use borrow.Author.Rules.{rules}
 use Rattle.store_spawn_at.proofs.is_leaving.Goals as goal
 
 pub returns-in-Seated : goal.returns-in-Seated

@@ -1,7 +1,6 @@
 -- `store_spawn_at::make_way` meets its contract: a row leaves where there is one.
 use Rattle.store_spawn_at.proofs.Taking.{old_leaves}
 use Rattle.store_spawn_at.specs.Seen.{cleared_seats}
-use borrow.Author.Rules.{rules}
 use Rattle.store_spawn_at.proofs.make_way.Goals as goal
 
 pub returns-in-Seated : goal.returns-in-Seated

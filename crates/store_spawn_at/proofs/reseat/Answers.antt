@@ -1,6 +1,5 @@
 -- `store_spawn_at::reseat` meets its contract: the old row has left, and the first unused row is taken.
 use Rattle.store_spawn_at.proofs.Taking.{reseats}
-use borrow.Author.Rules.{rules}
 use Rattle.store_spawn_at.proofs.reseat.Goals as goal
 
 pub returns : goal.returns

@@ -1,7 +1,6 @@
 -- `store_spawn_at::settle` meets its contract: the number has its row, and the id layer grants it that.
 use native.Mathlib.Omega.{arith}
 use Rattle.store_spawn_at.proofs.Taking.{settles}
-use borrow.Author.Rules.{rules}
 use Rattle.store_spawn_at.proofs.settle.Goals as goal
 
 pub shape_of-generations : goal.shape_of-generations

@@ -1,9 +1,7 @@
 -- `store_spawn_at::spawn_at` meets its contract: its tests refuse, or the number has settled.
 use native.Mathlib.Omega.{arith}
-use mathlib.Core.Path.{refl}
 use Rattle.refusal.specs.Laws.{refuse}
 use Rattle.store_spawn_at.proofs.Taking.{refused_so, spawns}
-use borrow.Author.Rules.{rules}
 use Rattle.store_spawn_at.proofs.spawn_at.Goals as goal
 
 pub choice_for-requires : goal.choice_for-requires

@@ -1,7 +1,6 @@
 -- `store_spawn_at::standing_of` meets its contract: each return is a way to what the number is.
 use Rattle.store_spawn_at.proofs.Finding.{never_used, pending_bad, pending_good, unplaced, no_own, in_own}
 use mathlib.Core.Path.{sym, ◌∙◌}
-use borrow.Author.Rules.{rules}
 use Rattle.store_spawn_at.proofs.standing_of.Goals as goal
 
 pub returns-then-head-n : goal.returns-then-head-n

@@ -1,5 +1,4 @@
 -- `store_steps::block_of` meets its contract: the rows are read.
-use borrow.Author.Rules.{rules}
 use Rattle.store_steps.specs.Parts.{block_by}
 use Rattle.store_steps.proofs.block_of.Goals as goal
 

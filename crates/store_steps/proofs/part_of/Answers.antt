@@ -1,5 +1,4 @@
 -- `store_steps::part_of` meets its contract: the table has none of the columns, some of them, or all.
-use borrow.Author.Rules.{rules}
 use Rattle.store_steps.proofs.Stepping.{part_none, part_some, part_all}
 use Rattle.store_steps.proofs.part_of.Goals as goal
 

@@ -1,5 +1,4 @@
 -- `store_steps::seat` meets its contract: the block and the sizes are the archetype's.
-use borrow.Author.Rules.{rules}
 use Rattle.store_steps.proofs.seat.Goals as goal
 
 pub returns : goal.returns

@@ -1,5 +1,4 @@
 -- `store_steps::seat_in` meets its contract: no row is unused, or the first is filled and counted.
-use borrow.Author.Rules.{rules}
 use Rattle.store_steps.proofs.Stepping.{none_unused, one_unused}
 use Rattle.store_steps.proofs.seat_in.Goals as goal
 

@@ -1,5 +1,4 @@
 -- `store_steps::vacate` meets its contract: the block and the sizes are the archetype's.
-use borrow.Author.Rules.{rules}
 use Rattle.store_steps.proofs.vacate.Goals as goal
 
 pub returns : goal.returns

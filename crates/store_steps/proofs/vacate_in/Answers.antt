@@ -1,5 +1,4 @@
 -- `store_steps::vacate_in` meets its contract: a number was moved and its place written, or none was.
-use borrow.Author.Rules.{rules}
 use Rattle.store_steps.proofs.Stepping.{nothing_moved, one_moved}
 use Rattle.store_steps.proofs.vacate_in.Goals as goal
 

@@ -1,7 +1,6 @@
 -- `store_tables::entity_at` meets its contract: each return is a way through its tests.
 use mathlib.Core.Path.{ap}
 use mathlib.Core.Bool.{not}
-use borrow.Author.Rules.{rules}
 use borrow.Author.Tests.{not-true, not-false}
 use mathlib.Core.Path.{sym, ◌∙◌}
 use Rattle.store_tables.proofs.Seeing.{unflushed, absent, not_own, its_own}

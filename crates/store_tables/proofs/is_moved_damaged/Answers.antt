@@ -1,5 +1,4 @@
 -- `store_tables::is_moved_damaged` meets its contract: each return is a way through what is seen of the moved number.
-use borrow.Author.Rules.{rules}
 use Rattle.store_tables.proofs.Seeing.{is_last, past_used, elsewhere, by_index}
 use Rattle.store_tables.proofs.is_moved_damaged.Goals as goal
 

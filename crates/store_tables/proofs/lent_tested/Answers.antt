@@ -1,5 +1,4 @@
 -- `store_tables::lent_tested` meets its contract: the lengths of the id tables, then the words', then the value's.
-use borrow.Author.Rules.{rules}
 use mathlib.Core.Path.{sym}
 use Rattle.refusal.specs.Laws.{told}
 use Rattle.store_tables.proofs.Entering.{lengths_wrong, words_wrong, value_wrong, lent_right}

@@ -1,5 +1,4 @@
 -- `store_tables::own_place` meets its contract: each return is a way through what is seen of the row.
-use borrow.Author.Rules.{rules}
 use Rattle.store_tables.proofs.Seeing.{no_archetype, no_row, another, holds}
 use Rattle.store_tables.proofs.own_place.Goals as goal
 

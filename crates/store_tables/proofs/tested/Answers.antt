@@ -1,5 +1,4 @@
 -- `store_tables::tested` meets its contract: five runs of tests, in their order.
-use borrow.Author.Rules.{rules}
 use mathlib.Core.Path.{sym, ◌∙◌}
 use Rattle.refusal.specs.Laws.{told}
 use Rattle.store_tables.proofs.Entering.{at_capacity, at_tables, at_lent, at_head, at_counts}

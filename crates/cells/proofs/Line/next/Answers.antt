@@ -1,5 +1,4 @@
 -- `cells::Line::next` meets its contract: what `place` says of where the next column starts.
-use borrow.Author.Rules.{rules}
 use Rattle.cells.proofs.Line.next.Goals as goal
 
 pub returns : goal.returns

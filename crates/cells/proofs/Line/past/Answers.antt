@@ -1,8 +1,4 @@
-use Prim.Native.Nat.{◌≤◌, ◌-◌}
-use mathlib.Core.Path.{◌≡◌, refl, sym, ◌∙◌}
-use borrow.Author.Rules.{rules}
-use lib.ListN.{length, drop}
-use Rattle.cells.specs.Line.{past_of, last_place, line_told}
+use mathlib.Core.Path.{sym, ◌∙◌}
 use Rattle.cells.proofs.Lines.{past_more, past_all, next_fits}
 use Rattle.cells.proofs.Line.past.Goals as goal
 

@@ -1,10 +1,8 @@
 -- `cells::Line::past` meets its contract. The loop's invariant: what is left of the columns decides. The measure is how many are left.
 use Prim.Native.Nat.{◌≤◌, ◌-◌}
-use mathlib.Core.Path.{◌≡◌, refl, sym, ◌∙◌}
-use borrow.Author.Rules.{rules}
+use mathlib.Core.Path.{◌≡◌}
 use lib.ListN.{length, drop}
 use Rattle.cells.specs.Line.{past_of, last_place, line_told}
-use Rattle.cells.proofs.Lines.{past_more, past_all, next_fits}
 use Rattle.cells.proofs.Line.past.Given as goal
 
 abbrev pub invariant-loop-j : goal.invariant-loop-j

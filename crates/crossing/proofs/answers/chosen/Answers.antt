@@ -1,6 +1,5 @@
 -- `crossing::chosen` meets its contract: each case is told as its document's answer.
 use mathlib.Core.Path.{sym, ap, ◌∙◌}
-use borrow.Author.Rules.{rules}
 use Rattle.ids.specs.Answers.{chosen_of, chosen_head}
 use Rattle.crossing.proofs.Telling.{told_granted, told_refused}
 use Rattle.crossing.proofs.answers.chosen.Goals as goal

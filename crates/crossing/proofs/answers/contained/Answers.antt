@@ -1,6 +1,5 @@
 -- `crossing::contained` meets its contract: each case is told as its document's answer.
 use mathlib.Core.Path.{ap, ◌∙◌}
-use borrow.Author.Rules.{rules}
 use Rattle.id_tables.specs.Lookup.{contained_of}
 use Rattle.crossing.specs.Answers.{number_four}
 use Rattle.crossing.proofs.Telling.{told_granted}

@@ -1,6 +1,5 @@
 -- `crossing::done` meets its contract: each case is told as its document's answer.
 use mathlib.Core.Path.{sym, ap, ◌∙◌}
-use borrow.Author.Rules.{rules}
 use Rattle.id_tables.specs.Lookup.{done_of, head_after}
 use Rattle.crossing.specs.Answers.{code_of}
 use Rattle.crossing.proofs.answers.done.Goals as goal

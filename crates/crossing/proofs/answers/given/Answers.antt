@@ -1,6 +1,5 @@
 -- `crossing::given` meets its contract: each case is told as its document's answer.
 use mathlib.Core.Path.{sym, ap, ◌∙◌}
-use borrow.Author.Rules.{rules}
 use Rattle.ids.specs.Answers.{given_of, given_head}
 use Rattle.crossing.specs.Answers.{number_four}
 use Rattle.crossing.proofs.Telling.{told_granted, told_refused}

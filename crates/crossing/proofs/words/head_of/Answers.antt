@@ -1,5 +1,4 @@
 -- `crossing::head_of` meets its contract.
-use borrow.Author.Rules.{rules}
 use Rattle.crossing.proofs.Heads.{taken}
 use Rattle.crossing.proofs.words.head_of.Goals as goal
 

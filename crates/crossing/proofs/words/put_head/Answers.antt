@@ -1,5 +1,4 @@
 -- `crossing::put_head` meets its contract.
-use borrow.Author.Rules.{rules}
 use Rattle.crossing.proofs.Heads.{written}
 use Rattle.crossing.proofs.words.put_head.Goals as goal
 

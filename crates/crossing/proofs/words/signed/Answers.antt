@@ -1,6 +1,5 @@
 -- `crossing::signed` meets its contract: the bits as they are, or flipped twice.
 use native.Mathlib.Omega.{arith}
-use borrow.Author.Rules.{rules}
 use Rattle.crossing.proofs.Signed.{read_as, read_flipped}
 use Rattle.crossing.proofs.words.signed.Goals as goal
 

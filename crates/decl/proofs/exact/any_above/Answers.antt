@@ -1,8 +1,4 @@
-use Prim.Native.Nat.{◌-◌}
-use mathlib.Core.Path.{◌≡◌, refl, sym, ◌∙◌}
-use borrow.Author.Rules.{rules}
-use lib.ListN.{length, drop}
-use Rattle.decl.specs.Lists.{any_above}
+use mathlib.Core.Path.{sym, ◌∙◌}
 use Rattle.decl.proofs.Lists.{above_here, above_next, above_none}
 use Rattle.decl.proofs.exact.any_above.Goals as goal
 

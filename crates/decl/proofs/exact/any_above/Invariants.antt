@@ -1,10 +1,8 @@
 -- `decl::exact::any_above` meets its contract. The loop's invariant: what is left of the list decides. The measure is how much is left.
 use Prim.Native.Nat.{◌-◌}
-use mathlib.Core.Path.{◌≡◌, refl, sym, ◌∙◌}
-use borrow.Author.Rules.{rules}
+use mathlib.Core.Path.{◌≡◌}
 use lib.ListN.{length, drop}
 use Rattle.decl.specs.Lists.{any_above}
-use Rattle.decl.proofs.Lists.{above_here, above_next, above_none}
 use Rattle.decl.proofs.exact.any_above.Given as goal
 
 abbrev pub invariant-loop-i : goal.invariant-loop-i

@@ -1,10 +1,6 @@
-use Prim.Native.Nat.{◌-◌, ◌≤◌}
-use mathlib.Core.Bool.{false}
-use mathlib.Core.Path.{◌≡◌, sym, ◌∙◌}
+use mathlib.Core.Path.{sym, ◌∙◌}
 use borrow.Author.Rules.{rules}
-use lib.ListN.{length}
-use Rattle.decl.specs.Lists.{first_of, any_below, any_pair}
-use Rattle.decl.specs.Steps.{clash_at}
+use Rattle.decl.specs.Lists.{any_pair}
 use Rattle.decl.proofs.Lists.{any_none, any_more, any_stop, any_done, first_none, part_lent}
 use Rattle.decl.proofs.exact.any_clash.Goals as goal
 

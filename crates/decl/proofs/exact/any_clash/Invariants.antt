@@ -1,12 +1,10 @@
 -- `decl::exact::any_clash` meets its contract. The loop's invariant: `at` is where the archetype's columns begin, and none before it clashes with one before that. The measure is how many archetypes are left.
 use Prim.Native.Nat.{◌-◌, ◌≤◌}
 use mathlib.Core.Bool.{false}
-use mathlib.Core.Path.{◌≡◌, sym, ◌∙◌}
-use borrow.Author.Rules.{rules}
+use mathlib.Core.Path.{◌≡◌}
 use lib.ListN.{length}
-use Rattle.decl.specs.Lists.{first_of, any_below, any_pair}
+use Rattle.decl.specs.Lists.{first_of, any_below}
 use Rattle.decl.specs.Steps.{clash_at}
-use Rattle.decl.proofs.Lists.{any_none, any_more, any_stop, any_done, first_none, part_lent}
 use Rattle.decl.proofs.exact.any_clash.Given as goal
 
 abbrev pub invariant-loop-b : goal.invariant-loop-b

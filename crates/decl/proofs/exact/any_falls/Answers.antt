@@ -1,10 +1,7 @@
-use Prim.Native.Nat.{◌-◌, ◌≤◌}
-use mathlib.Core.Bool.{false, not}
-use mathlib.Core.Path.{◌≡◌, sym, ap, ◌∙◌}
+use mathlib.Core.Bool.{not}
+use mathlib.Core.Path.{sym, ap, ◌∙◌}
 use borrow.Author.Rules.{rules}
-use lib.ListN.{length}
-use Rattle.decl.specs.Lists.{first_of, rising, any_below}
-use Rattle.decl.specs.Steps.{falls}
+use Rattle.decl.specs.Lists.{rising}
 use Rattle.decl.proofs.Lists.{any_none, any_more, any_stop, any_done, first_none, part_told}
 use Rattle.decl.proofs.exact.any_falls.Goals as goal
 

@@ -1,12 +1,10 @@
 -- `decl::exact::any_falls` meets its contract. The loop's invariant: `at` is where the archetype's columns begin, and those before it ascend. The measure is how many archetypes are left.
 use Prim.Native.Nat.{◌-◌, ◌≤◌}
-use mathlib.Core.Bool.{false, not}
-use mathlib.Core.Path.{◌≡◌, sym, ap, ◌∙◌}
-use borrow.Author.Rules.{rules}
+use mathlib.Core.Bool.{false}
+use mathlib.Core.Path.{◌≡◌}
 use lib.ListN.{length}
-use Rattle.decl.specs.Lists.{first_of, rising, any_below}
+use Rattle.decl.specs.Lists.{first_of, any_below}
 use Rattle.decl.specs.Steps.{falls}
-use Rattle.decl.proofs.Lists.{any_none, any_more, any_stop, any_done, first_none, part_told}
 use Rattle.decl.proofs.exact.any_falls.Given as goal
 
 abbrev pub invariant-loop-a : goal.invariant-loop-a

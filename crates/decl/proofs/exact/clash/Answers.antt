@@ -1,8 +1,6 @@
-use Prim.Native.Nat.{◌+◌, ◌-◌, ◌≤◌}
 use native.Mathlib.Omega.{arith}
 use borrow.Author.Rules.{rules}
-use lib.ListN.{length}
-use Rattle.decl.proofs.Merge.{Walked, walk_start, walk_found, walk_both, walk_left, walk_right, walk_short, walk_differ, walk_same}
+use Rattle.decl.proofs.Merge.{walk_start, walk_found, walk_both, walk_left, walk_right, walk_short, walk_differ, walk_same}
 use Rattle.decl.proofs.exact.clash.Goals as goal
 
 pub loop-i-init : goal.loop-i-init

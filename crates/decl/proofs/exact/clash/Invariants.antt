@@ -1,9 +1,7 @@
 -- `decl::exact::clash` meets its contract. The loop's invariant: `Walked`, what the columns that are left say of all. The measure is how many are left.
 use Prim.Native.Nat.{◌+◌, ◌-◌, ◌≤◌}
-use native.Mathlib.Omega.{arith}
-use borrow.Author.Rules.{rules}
 use lib.ListN.{length}
-use Rattle.decl.proofs.Merge.{Walked, walk_start, walk_found, walk_both, walk_left, walk_right, walk_short, walk_differ, walk_same}
+use Rattle.decl.proofs.Merge.{Walked}
 use Rattle.decl.proofs.exact.clash.Given as goal
 
 abbrev pub invariant-loop-i : goal.invariant-loop-i

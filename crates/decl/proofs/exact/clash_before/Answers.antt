@@ -1,10 +1,6 @@
-use Prim.Native.Nat.{◌-◌, ◌≤◌}
-use mathlib.Core.Bool.{false}
-use mathlib.Core.Path.{◌≡◌, sym, ◌∙◌}
+use mathlib.Core.Path.{sym, ◌∙◌}
 use native.Mathlib.Omega.{arith}
 use borrow.Author.Rules.{rules}
-use Rattle.decl.specs.Lists.{first_of, any_below}
-use Rattle.decl.specs.Steps.{clash_at}
 use Rattle.decl.proofs.Lists.{any_none, any_more, any_stop, any_done, first_none}
 use Rattle.decl.proofs.Pairs.{clash_lent, clash_told}
 use Rattle.decl.proofs.exact.clash_before.Goals as goal

@@ -1,13 +1,9 @@
 -- `decl::exact::clash_before` meets its contract. The loop's invariant: `at` is where the archetype's columns begin, and none before it clashes with b. The measure is how many archetypes are left.
 use Prim.Native.Nat.{◌-◌, ◌≤◌}
 use mathlib.Core.Bool.{false}
-use mathlib.Core.Path.{◌≡◌, sym, ◌∙◌}
-use native.Mathlib.Omega.{arith}
-use borrow.Author.Rules.{rules}
+use mathlib.Core.Path.{◌≡◌}
 use Rattle.decl.specs.Lists.{first_of, any_below}
 use Rattle.decl.specs.Steps.{clash_at}
-use Rattle.decl.proofs.Lists.{any_none, any_more, any_stop, any_done, first_none}
-use Rattle.decl.proofs.Pairs.{clash_lent, clash_told}
 use Rattle.decl.proofs.exact.clash_before.Given as goal
 
 abbrev pub invariant-loop-a : goal.invariant-loop-a

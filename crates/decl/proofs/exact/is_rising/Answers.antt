@@ -1,8 +1,5 @@
-use Prim.Native.Nat.{◌-◌, ◌≤◌}
-use mathlib.Core.Path.{◌≡◌, refl, sym, ◌∙◌}
+use mathlib.Core.Path.{refl, sym, ◌∙◌}
 use borrow.Author.Rules.{rules}
-use lib.ListN.{length, drop}
-use Rattle.decl.specs.Lists.{rising}
 use Rattle.decl.proofs.Lists.{rising_stop, rising_next, rising_end}
 use Rattle.decl.proofs.exact.is_rising.Goals as goal
 

@@ -1,10 +1,8 @@
 -- `decl::exact::is_rising` meets its contract. The loop's invariant: what is left of the list decides. The measure is how much is left.
 use Prim.Native.Nat.{◌-◌, ◌≤◌}
-use mathlib.Core.Path.{◌≡◌, refl, sym, ◌∙◌}
-use borrow.Author.Rules.{rules}
+use mathlib.Core.Path.{◌≡◌}
 use lib.ListN.{length, drop}
 use Rattle.decl.specs.Lists.{rising}
-use Rattle.decl.proofs.Lists.{rising_stop, rising_next, rising_end}
 use Rattle.decl.proofs.exact.is_rising.Given as goal
 
 abbrev pub invariant-loop-i : goal.invariant-loop-i

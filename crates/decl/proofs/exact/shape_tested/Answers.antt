@@ -1,7 +1,6 @@
 -- `decl::exact::shape_tested` meets its contract: a test that fails decides, since all have the number 12, and where none does each is passed.
 use mathlib.Core.Bool.{not}
 use mathlib.Core.Path.{refl, sym, ap, ◌∙◌}
-use borrow.Author.Rules.{rules}
 use borrow.Author.Tests.{eq-eqb, ne_eqb, lt-ltb, le-ltb}
 use Rattle.decl.specs.Rules.{shape_rules}
 use Rattle.refusal.specs.Chain.{onward, through}

@@ -1,6 +1,5 @@
 -- `decl::exact::tested` meets its contract: a test that fails decides, and where none does all the rules are passed.
 use mathlib.Core.Path.{sym, ◌∙◌}
-use borrow.Author.Rules.{rules}
 use Rattle.refusal.specs.Laws.{told}
 use Rattle.decl.proofs.Checks.{shape_halts, columns_lent, risen, size_refused, fall_refused, clash_refused, all_passed}
 use Rattle.decl.proofs.exact.tested.Goals as goal

@@ -1,8 +1,6 @@
 -- `decl::quick::alone` meets its contract: where the one archetype's columns ascend and are not too large, the rules are kept.
-use Prim.{tt}
 use native.Mathlib.Nat.{mul-le-mul}
 use native.Mathlib.Omega.{arith}
-use borrow.Author.Rules.{rules}
 use Rattle.decl.proofs.Alone.{order_small, alone_settles}
 use Rattle.decl.proofs.quick.alone.Goals as goal
 

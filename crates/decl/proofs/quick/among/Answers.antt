@@ -1,13 +1,8 @@
-use Prim.{tt}
-use Prim.Native.Nat.{◌-◌, ◌≤◌}
 use mathlib.Core.Path.{refl, sym}
 use native.Mathlib.Nat.{mul-le-mul}
 use native.Mathlib.Omega.{arith}
-use borrow.Author.Rules.{rules}
-use lib.ListN.{length}
-use Rattle.decl.specs.Decl.{decl_of}
-use Rattle.decl.proofs.Glancing.{Passing, passing_start, mark_small, zeros}
-use Rattle.decl.proofs.Counting.{Counted, counted_start, look_next}
+use Rattle.decl.proofs.Glancing.{passing_start, mark_small, zeros}
+use Rattle.decl.proofs.Counting.{counted_start, look_next}
 use Rattle.decl.proofs.Measuring.{look_settles}
 use Rattle.decl.proofs.quick.among.Goals as goal
 

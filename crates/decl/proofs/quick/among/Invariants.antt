@@ -1,15 +1,9 @@
 -- `decl::quick::among` meets its contract. The loop's invariant: `Counted`, what the archetypes passed take, and `Passing`, what is known of their columns. The measure is how many are left.
-use Prim.{tt}
 use Prim.Native.Nat.{◌-◌, ◌≤◌}
-use mathlib.Core.Path.{refl, sym}
-use native.Mathlib.Nat.{mul-le-mul}
-use native.Mathlib.Omega.{arith}
-use borrow.Author.Rules.{rules}
 use lib.ListN.{length}
 use Rattle.decl.specs.Decl.{decl_of}
-use Rattle.decl.proofs.Glancing.{Passing, passing_start, mark_small, zeros}
-use Rattle.decl.proofs.Counting.{Counted, counted_start, look_next}
-use Rattle.decl.proofs.Measuring.{look_settles}
+use Rattle.decl.proofs.Glancing.{Passing}
+use Rattle.decl.proofs.Counting.{Counted}
 use Rattle.decl.proofs.quick.among.Given as goal
 
 abbrev pub invariant-loop-a : goal.invariant-loop-a

@@ -1,11 +1,7 @@
 -- `decl::quick::is_among` meets its contract. The loop's invariant: no mark passed is this one. The measure is how many are left.
 use Prim.Native.Nat.{ℕ, ◌-◌, ◌≤◌, ◌<◌}
-use mathlib.Core.Path.{◌≡◌, sym}
-use native.Mathlib.Omega.{arith}
-use borrow.Author.Count.{below_more}
-use borrow.Author.Rules.{rules}
+use mathlib.Core.Path.{◌≡◌}
 use lib.ListN.{get_or}
-use Rattle.decl.proofs.Lists.{false_true}
 use Rattle.decl.proofs.quick.is_among.Given as goal
 
 abbrev pub invariant-loop-i : goal.invariant-loop-i

@@ -1,5 +1,4 @@
 -- `decl::quick::is_known` meets its contract: the type is noted with this size, or is the first with its low bits, and is noted.
-use borrow.Author.Rules.{rules}
 use borrow.Author.Tests.{eqb-true}
 use Rattle.decl.proofs.Lists.{false_true}
 use Rattle.decl.proofs.Glancing.{noted_new, noted_like}

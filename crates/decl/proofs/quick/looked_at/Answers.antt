@@ -1,8 +1,6 @@
 -- `decl::quick::looked_at` meets its contract: the tests that the two walks ask for, then the walk.
-use Prim.{tt}
 use mathlib.Core.Path.{◌∙◌}
 use native.Mathlib.Omega.{arith}
-use borrow.Author.Rules.{rules}
 use Rattle.decl.proofs.quick.looked_at.Goals as goal
 
 pub bounds-widths-0 : goal.bounds-widths-0

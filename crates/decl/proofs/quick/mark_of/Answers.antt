@@ -1,13 +1,9 @@
 use mathlib.Core.Path.{ap}
 use mathlib.Core.Bool.{not}
-use Prim.{tt}
-use Prim.Native.Nat.{◌-◌, ◌≤◌}
 use mathlib.Core.Path.{refl}
 use native.Mathlib.Omega.{arith}
-use borrow.Author.Rules.{rules}
 use borrow.Author.Tests.{not-false}
-use Rattle.decl.specs.Steps.{Noted}
-use Rattle.decl.proofs.Glancing.{Going, going_start, going_next, Marking, marking_next, marked}
+use Rattle.decl.proofs.Glancing.{going_start, going_next, marking_next, marked}
 use Rattle.decl.proofs.quick.mark_of.Goals as goal
 
 pub loop-p-init : goal.loop-p-init

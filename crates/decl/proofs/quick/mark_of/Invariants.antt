@@ -1,12 +1,7 @@
 -- `decl::quick::mark_of` meets its contract. The loop's invariant: the columns passed are noted, `Going` says what is known of them, and `Marking` what their mark is. The measure is how many are left.
-use Prim.{tt}
 use Prim.Native.Nat.{◌-◌, ◌≤◌}
-use mathlib.Core.Path.{refl}
-use native.Mathlib.Omega.{arith}
-use borrow.Author.Rules.{rules}
-use borrow.Author.Tests.{not-false}
 use Rattle.decl.specs.Steps.{Noted}
-use Rattle.decl.proofs.Glancing.{Going, going_start, going_next, Marking, marking_next, marked}
+use Rattle.decl.proofs.Glancing.{Going, Marking}
 use Rattle.decl.proofs.quick.mark_of.Given as goal
 
 abbrev pub invariant-loop-p : goal.invariant-loop-p

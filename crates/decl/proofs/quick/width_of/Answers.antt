@@ -1,9 +1,5 @@
-use Prim.{tt}
-use Prim.Native.Nat.{◌-◌, ◌≤◌}
 use native.Mathlib.Omega.{arith}
-use borrow.Author.Rules.{rules}
-use lib.ListN.{length}
-use Rattle.decl.proofs.Glancing.{Going, going_start, going_next, going_end}
+use Rattle.decl.proofs.Glancing.{going_start, going_next, going_end}
 use Rattle.decl.proofs.quick.width_of.Goals as goal
 
 pub loop-p-init : goal.loop-p-init

@@ -1,10 +1,7 @@
 -- `decl::quick::width_of` meets its contract. The loop's invariant: `Going`, what is known of the columns passed. The measure is how many are left.
-use Prim.{tt}
 use Prim.Native.Nat.{◌-◌, ◌≤◌}
-use native.Mathlib.Omega.{arith}
-use borrow.Author.Rules.{rules}
 use lib.ListN.{length}
-use Rattle.decl.proofs.Glancing.{Going, going_start, going_next, going_end}
+use Rattle.decl.proofs.Glancing.{Going}
 use Rattle.decl.proofs.quick.width_of.Given as goal
 
 abbrev pub invariant-loop-p : goal.invariant-loop-p

@@ -1,7 +1,6 @@
 -- `exports_ids::alloced_many` meets its contract.
 use mathlib.Core.Path.{sym, ap, ◌∙◌}
 use mathlib.Core.Path.{refl}
-use borrow.Author.Rules.{rules}
 use Rattle.id_batches.specs.AllocMany.{alloced_of, head_after_many}
 use Rattle.crossing.proofs.Telling.{told_granted, told_refused}
 use Rattle.exports_ids.proofs.batches.alloced_many.Goals as goal

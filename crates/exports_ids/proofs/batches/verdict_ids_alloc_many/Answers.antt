@@ -1,5 +1,4 @@
 -- `exports_ids::verdict_ids_alloc_many` meets its contract.
-use borrow.Author.Rules.{rules}
 use Rattle.crossing.proofs.Telling.{crossed_ids}
 use Rattle.exports_ids.proofs.batches.verdict_ids_alloc_many.Goals as goal
 

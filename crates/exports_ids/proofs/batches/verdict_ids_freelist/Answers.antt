@@ -1,5 +1,4 @@
 -- `exports_ids::verdict_ids_freelist` meets its contract.
-use borrow.Author.Rules.{rules}
 use Rattle.crossing.proofs.Telling.{crossed}
 use Rattle.exports_ids.proofs.batches.verdict_ids_freelist.Goals as goal
 

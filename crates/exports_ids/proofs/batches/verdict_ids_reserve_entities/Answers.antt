@@ -1,5 +1,4 @@
 -- `exports_ids::verdict_ids_reserve_entities` meets its contract.
-use borrow.Author.Rules.{rules}
 use Rattle.crossing.proofs.Telling.{passed_ids_out}
 use Rattle.exports_ids.proofs.batches.verdict_ids_reserve_entities.Goals as goal
 

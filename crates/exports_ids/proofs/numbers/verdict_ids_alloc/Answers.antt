@@ -1,5 +1,4 @@
 -- `exports_ids::verdict_ids_alloc` meets its contract.
-use borrow.Author.Rules.{rules}
 use Rattle.crossing.proofs.Telling.{crossed_ids}
 use Rattle.exports_ids.proofs.numbers.verdict_ids_alloc.Goals as goal
 

@@ -1,5 +1,4 @@
 -- `exports_ids::verdict_ids_contains` meets its contract.
-use borrow.Author.Rules.{rules}
 use Rattle.crossing.proofs.Telling.{retold}
 use Rattle.exports_ids.proofs.numbers.verdict_ids_contains.Goals as goal
 

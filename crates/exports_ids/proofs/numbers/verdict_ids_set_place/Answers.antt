@@ -1,5 +1,4 @@
 -- `exports_ids::verdict_ids_set_place` meets its contract.
-use borrow.Author.Rules.{rules}
 use Rattle.crossing.proofs.Telling.{passed}
 use Rattle.exports_ids.proofs.numbers.verdict_ids_set_place.Goals as goal
 

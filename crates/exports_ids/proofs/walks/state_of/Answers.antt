@@ -1,5 +1,4 @@
 -- `exports_ids::state_of` meets its contract.
-use borrow.Author.Rules.{rules}
 use Rattle.exports_ids.proofs.Laws.{state_read}
 use Rattle.exports_ids.proofs.walks.state_of.Goals as goal
 

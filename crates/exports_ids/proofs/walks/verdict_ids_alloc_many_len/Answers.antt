@@ -1,5 +1,4 @@
 -- `exports_ids::verdict_ids_alloc_many_len` meets its contract.
-use borrow.Author.Rules.{rules}
 use Rattle.exports_ids.proofs.Laws.{told_count}
 use Rattle.exports_ids.proofs.walks.verdict_ids_alloc_many_len.Goals as goal
 

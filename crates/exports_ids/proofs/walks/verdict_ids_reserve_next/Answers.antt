@@ -1,5 +1,4 @@
 -- `exports_ids::verdict_ids_reserve_next` meets its contract.
-use borrow.Author.Rules.{rules}
 use Rattle.crossing.proofs.Telling.{crossed}
 use Rattle.exports_ids.proofs.walks.verdict_ids_reserve_next.Goals as goal
 

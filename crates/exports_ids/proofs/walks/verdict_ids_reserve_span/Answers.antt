@@ -1,6 +1,5 @@
 -- `exports_ids::verdict_ids_reserve_span` meets its contract.
 use mathlib.Core.Path.{refl}
-use borrow.Author.Rules.{rules}
 use Rattle.exports_ids.proofs.Laws.{crossed_span}
 use Rattle.exports_ids.proofs.walks.verdict_ids_reserve_span.Goals as goal
 

@@ -1,6 +1,5 @@
 -- `exports_ids::halves` meets its contract.
 use mathlib.Core.Path.{ap}
-use borrow.Author.Rules.{rules}
 use Rattle.handle.specs.Bits.{answer_of}
 use Rattle.crossing.proofs.Telling.{told_granted}
 use Rattle.exports_ids.proofs.Laws.{halves_are}

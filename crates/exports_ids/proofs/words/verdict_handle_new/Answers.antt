@@ -1,5 +1,4 @@
 -- `exports_ids::verdict_handle_new` meets its contract.
-use borrow.Author.Rules.{rules}
 use Rattle.crossing.proofs.Telling.{retold}
 use Rattle.exports_ids.proofs.words.verdict_handle_new.Goals as goal
 

@@ -1,5 +1,4 @@
 -- `exports_ids::verdict_word_release` meets its contract.
-use borrow.Author.Rules.{rules}
 use Rattle.exports_ids.proofs.Laws.{repassed}
 use Rattle.exports_ids.proofs.words.verdict_word_release.Goals as goal
 

@@ -1,5 +1,4 @@
 -- `exports_ids::verdict_word_unique_at` meets its contract.
-use borrow.Author.Rules.{rules}
 use Rattle.crossing.proofs.Telling.{crossed}
 use Rattle.exports_ids.proofs.words.verdict_word_unique_at.Goals as goal
 

@@ -1,5 +1,4 @@
 -- `handle::Handle::new` meets its contract: each return rewrites with the rule's test, which the code's test decides.
-use borrow.Author.Rules.{rules}
 use borrow.Author.Tests.{eq-eqb, ne_eqb}
 use mathlib.Core.Path.{ap}
 use Rattle.refusal.specs.Table.{granted, ◌or_else◌}

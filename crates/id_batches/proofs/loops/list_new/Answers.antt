@@ -1,10 +1,6 @@
-use Prim.Native.Nat.{◌≤◌, ◌-◌}
-use mathlib.Core.Path.{◌≡◌, refl}
+use mathlib.Core.Path.{refl}
 use borrow.Author.Rules.{rules}
-use lib.ListN.{length}
-use Rattle.id_tables.specs.Runs.{up_from}
-use Rattle.id_batches.specs.Reserve.{new_handles}
-use Rattle.id_batches.proofs.Setting.{Rest, rest_all, rest_none, new_next, up_in, up_here, up_end}
+use Rattle.id_batches.proofs.Setting.{rest_all, rest_none, new_next, up_in, up_here, up_end}
 use Rattle.id_batches.proofs.loops.list_new.Goals as goal
 
 pub loop-i-init : goal.loop-i-init

@@ -1,11 +1,10 @@
 -- `id_batches::loops::list_new` meets its contract. The loop's invariant: what is left to write, of an output of the same length.
 use Prim.Native.Nat.{◌≤◌, ◌-◌}
-use mathlib.Core.Path.{◌≡◌, refl}
-use borrow.Author.Rules.{rules}
+use mathlib.Core.Path.{◌≡◌}
 use lib.ListN.{length}
 use Rattle.id_tables.specs.Runs.{up_from}
 use Rattle.id_batches.specs.Reserve.{new_handles}
-use Rattle.id_batches.proofs.Setting.{Rest, rest_all, rest_none, new_next, up_in, up_here, up_end}
+use Rattle.id_batches.proofs.Setting.{Rest}
 use Rattle.id_batches.proofs.loops.list_new.Given as goal
 
 abbrev pub invariant-loop-i : goal.invariant-loop-i

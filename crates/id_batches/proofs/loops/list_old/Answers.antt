@@ -1,12 +1,8 @@
-use Prim.Native.Nat.{◌≤◌, ◌-◌}
-use mathlib.Core.Path.{◌≡◌, refl}
+use mathlib.Core.Path.{refl}
 use native.Mathlib.Omega.{arith}
 use borrow.Author.Rules.{rules}
-use lib.ListN.{length}
-use Rattle.id_tables.specs.Runs.{up_from}
 use Rattle.id_tables.proofs.Damage.{below_at}
-use Rattle.id_batches.specs.Reserve.{old_handles}
-use Rattle.id_batches.proofs.Setting.{Rest, rest_all, rest_none, old_next, up_end}
+use Rattle.id_batches.proofs.Setting.{rest_all, rest_none, old_next, up_end}
 use Rattle.id_batches.proofs.loops.list_old.Goals as goal
 
 pub loop-i-init : goal.loop-i-init

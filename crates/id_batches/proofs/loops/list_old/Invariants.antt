@@ -1,13 +1,10 @@
 -- `id_batches::loops::list_old` meets its contract. The loop's invariant: what is left to write, of an output of the same length.
 use Prim.Native.Nat.{◌≤◌, ◌-◌}
-use mathlib.Core.Path.{◌≡◌, refl}
-use native.Mathlib.Omega.{arith}
-use borrow.Author.Rules.{rules}
+use mathlib.Core.Path.{◌≡◌}
 use lib.ListN.{length}
 use Rattle.id_tables.specs.Runs.{up_from}
-use Rattle.id_tables.proofs.Damage.{below_at}
 use Rattle.id_batches.specs.Reserve.{old_handles}
-use Rattle.id_batches.proofs.Setting.{Rest, rest_all, rest_none, old_next, up_end}
+use Rattle.id_batches.proofs.Setting.{Rest}
 use Rattle.id_batches.proofs.loops.list_old.Given as goal
 
 abbrev pub invariant-loop-i : goal.invariant-loop-i

@@ -1,11 +1,7 @@
-use Prim.Native.Nat.{◌+◌, ◌-◌, ◌<◌, ◌≤◌}
-use mathlib.Core.Path.{◌≡◌, refl, sym, ◌∙◌}
+use Prim.Native.Nat.{◌<◌}
+use mathlib.Core.Path.{sym, ◌∙◌}
 use native.Mathlib.Omega.{arith}
 use borrow.Author.Rules.{rules}
-use lib.ListN.{length}
-use lib.Seq.{sets}
-use Rattle.handle.specs.Bits.{MAX}
-use Rattle.id_tables.specs.Runs.{up_from}
 use Rattle.id_batches.proofs.Setting.{number_one, number_none}
 use Rattle.id_batches.proofs.loops.number.Goals as goal
 

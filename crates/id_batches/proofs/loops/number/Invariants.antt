@@ -1,13 +1,10 @@
 -- `id_batches::loops::number` meets its contract. The loop's invariant: what is left to store, stored, makes the whole, and the values fit.
-use Prim.Native.Nat.{◌+◌, ◌-◌, ◌<◌, ◌≤◌}
-use mathlib.Core.Path.{◌≡◌, refl, sym, ◌∙◌}
-use native.Mathlib.Omega.{arith}
-use borrow.Author.Rules.{rules}
+use Prim.Native.Nat.{◌+◌, ◌-◌, ◌≤◌}
+use mathlib.Core.Path.{◌≡◌}
 use lib.ListN.{length}
 use lib.Seq.{sets}
 use Rattle.handle.specs.Bits.{MAX}
 use Rattle.id_tables.specs.Runs.{up_from}
-use Rattle.id_batches.proofs.Setting.{number_one, number_none}
 use Rattle.id_batches.proofs.loops.number.Given as goal
 
 abbrev pub invariant-loop-i : goal.invariant-loop-i

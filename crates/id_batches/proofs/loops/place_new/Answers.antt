@@ -1,6 +1,5 @@
 -- `id_batches::loops::place_new` meets its contract: each table gets a run of stores.
 use mathlib.Core.Path.{◌∙◌}
-use borrow.Author.Rules.{rules}
 use Rattle.id_batches.proofs.Setting.{run_same, run_rows}
 use Rattle.id_batches.proofs.loops.place_new.Goals as goal
 

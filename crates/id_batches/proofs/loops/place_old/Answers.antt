@@ -1,11 +1,8 @@
-use Prim.Native.Nat.{◌≤◌, ◌-◌}
 use mathlib.Core.Path.{refl}
 use native.Mathlib.Omega.{arith}
 use borrow.Author.Rules.{rules}
-use lib.ListN.{length, replicate}
-use Rattle.id_tables.specs.Runs.{up_from}
 use Rattle.id_tables.proofs.Damage.{below_at}
-use Rattle.id_batches.proofs.Setting.{Rest, rest_all, rest_none, rest_long, same_next, row_next}
+use Rattle.id_batches.proofs.Setting.{rest_all, rest_none, rest_long, same_next, row_next}
 use Rattle.id_batches.proofs.loops.place_old.Goals as goal
 
 pub loop-i-init : goal.loop-i-init

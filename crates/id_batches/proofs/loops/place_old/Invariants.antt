@@ -1,12 +1,8 @@
 -- `id_batches::loops::place_old` meets its contract. The loop's invariant: of each table, what is left to set.
 use Prim.Native.Nat.{◌≤◌, ◌-◌}
-use mathlib.Core.Path.{refl}
-use native.Mathlib.Omega.{arith}
-use borrow.Author.Rules.{rules}
 use lib.ListN.{length, replicate}
 use Rattle.id_tables.specs.Runs.{up_from}
-use Rattle.id_tables.proofs.Damage.{below_at}
-use Rattle.id_batches.proofs.Setting.{Rest, rest_all, rest_none, rest_long, same_next, row_next}
+use Rattle.id_batches.proofs.Setting.{Rest}
 use Rattle.id_batches.proofs.loops.place_old.Given as goal
 
 abbrev pub invariant-loop-i : goal.invariant-loop-i

@@ -1,5 +1,4 @@
 -- `id_batches::many::alloc_many` meets its contract: the first tests, then what is left.
-use borrow.Author.Rules.{rules}
 use Rattle.refusal.specs.Laws.{refuse, via, told, halted, past}
 use Rattle.id_tables.proofs.Entering.{entry_ok}
 use Rattle.id_batches.specs.AllocMany.{allocating_many}

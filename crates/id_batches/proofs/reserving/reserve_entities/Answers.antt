@@ -1,5 +1,4 @@
 -- `id_batches::reserving::reserve_entities` meets its contract: the first tests, then what is left.
-use borrow.Author.Rules.{rules}
 use Rattle.refusal.specs.Laws.{refuse, via, told, halted, past}
 use Rattle.id_batches.specs.Reserve.{reserving}
 use Rattle.id_batches.proofs.Ways.{entered}

@@ -1,5 +1,4 @@
 -- `id_readers::spans::part_of` meets its contract.
-use borrow.Author.Rules.{rules}
 use Rattle.id_readers.proofs.Ways.{clamped}
 use Rattle.id_readers.proofs.spans.part_of.Goals as goal
 

@@ -1,5 +1,4 @@
 -- `id_readers::spans::reserve_span` meets its contract: the first tests, then what is left.
-use borrow.Author.Rules.{rules}
 use Rattle.refusal.specs.Laws.{told, halted, past}
 use Rattle.id_tables.proofs.Entering.{entry_ok}
 use Rattle.id_readers.specs.Reader.{part_reserved, reserving_part}

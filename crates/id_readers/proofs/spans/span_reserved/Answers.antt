@@ -1,5 +1,4 @@
 -- `id_readers::spans::span_reserved` meets its contract: each return is a way through its rule.
-use borrow.Author.Rules.{rules}
 use mathlib.Core.Path.{sym, ◌∙◌}
 use Rattle.id_readers.proofs.Ways.{refuse_span, part_full, part_damaged, part_done}
 use Rattle.id_readers.specs.Reader.{part_reserved}

@@ -1,5 +1,4 @@
 -- `id_readers::spans::step_at` meets its contract: each return is a way through its rule.
-use borrow.Author.Rules.{rules}
 use native.Mathlib.Omega.{arith}
 use Rattle.refusal.specs.Laws.{refuse, grant}
 use borrow.Author.Tests.{eqb-true}

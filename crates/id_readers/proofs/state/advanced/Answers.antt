@@ -1,5 +1,4 @@
 -- `id_readers::state::advanced` meets its contract: each arm hands on what the step by value did.
-use borrow.Author.Rules.{rules}
 use Rattle.id_readers.proofs.Ways.{walk_told}
 use Rattle.id_readers.proofs.state.advanced.Goals as goal
 

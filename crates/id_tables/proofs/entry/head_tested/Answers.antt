@@ -1,7 +1,7 @@
 -- `id_tables::entry::head_tested` meets its contract: each return rewrites with the tests that led there.
 use mathlib.Core.Path.{ap}
 use mathlib.Core.Bool.{not}
-use Rattle.std.proofs.Common.{◌-◌, sym, ◌∙◌, rules, le-ltb, lt-ltb, eq-eqb, ne_eqb}
+use Rattle.std.proofs.Common.{◌-◌, sym, ◌∙◌, le-ltb, lt-ltb, eq-eqb, ne_eqb}
 use borrow.Author.Tests.{not-true, not-false}
 use Rattle.refusal.specs.Table.{◌or_else◌}
 use Rattle.id_tables.specs.Head.{head_rules}

@@ -1,5 +1,5 @@
 -- `id_tables::tested` meets its contract: the capacity's test, the lengths', the output's, then the head's.
-use Rattle.std.proofs.Common.{sym, ◌∙◌, rules}
+use Rattle.std.proofs.Common.{sym, ◌∙◌}
 use Rattle.refusal.specs.Laws.{told}
 use Rattle.id_tables.proofs.Entering.{too_many, not_long, is_short, at_head}
 use Rattle.id_tables.proofs.entry.tested.Goals as goal

@@ -1,5 +1,5 @@
 -- `id_tables::contains` meets its contract: each return is a way through its rule.
-use Rattle.std.proofs.Common.{sym, ap, ◌∙◌, rules}
+use Rattle.std.proofs.Common.{sym, ap, ◌∙◌}
 use Rattle.refusal.specs.Table.{granted}
 use Rattle.refusal.specs.Laws.{told}
 use Rattle.handle.specs.OnBits.{on_first, on_zero, on_good}

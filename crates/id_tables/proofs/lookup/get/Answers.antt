@@ -1,5 +1,5 @@
 -- `id_tables::get` meets its contract: each return is a way through its rule.
-use Rattle.std.proofs.Common.{sym, ◌∙◌, rules}
+use Rattle.std.proofs.Common.{sym, ◌∙◌}
 use Rattle.refusal.specs.Laws.{told}
 use Rattle.handle.specs.OnBits.{on_first, on_zero, on_good}
 use Rattle.id_tables.specs.Lookup.{getting}

@@ -1,5 +1,5 @@
 -- `id_tables::got` meets its contract: each return is a way through its rule.
-use Rattle.std.proofs.Common.{sym, ◌∙◌, rules}
+use Rattle.std.proofs.Common.{sym, ◌∙◌}
 use Rattle.id_tables.proofs.Laws.{got_live, got_new, got_none}
 use Rattle.id_tables.proofs.Looking.{as_got}
 use Rattle.id_tables.proofs.lookup.got.Goals as goal

@@ -1,5 +1,5 @@
 -- `id_tables::is_contained` meets its contract: each return is a way through its rule.
-use Rattle.std.proofs.Common.{sym, ◌∙◌, rules}
+use Rattle.std.proofs.Common.{sym, ◌∙◌}
 use Rattle.id_tables.proofs.Looking.{in_new, in_other, in_live, in_old}
 use Rattle.id_tables.proofs.Parts.{part_is}
 use Rattle.id_tables.proofs.lookup.is_contained.Goals as goal

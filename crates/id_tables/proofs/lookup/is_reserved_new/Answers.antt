@@ -1,5 +1,5 @@
 -- `id_tables::is_reserved_new` meets its contract: each return is a way through its rule.
-use Rattle.std.proofs.Common.{sym, rules}
+use Rattle.std.proofs.Common.{sym}
 use Rattle.id_tables.proofs.Laws.{new_below}
 use Rattle.id_tables.proofs.Looking.{new_other, new_past}
 use Rattle.id_tables.proofs.lookup.is_reserved_new.Goals as goal

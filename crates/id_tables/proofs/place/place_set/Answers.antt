@@ -1,7 +1,7 @@
 -- `id_tables::place_set` meets its contract: each return is a way through its rule.
 use mathlib.Core.Path.{ap}
 use mathlib.Core.Bool.{not}
-use Rattle.std.proofs.Common.{sym, ◌∙◌, rules}
+use Rattle.std.proofs.Common.{sym, ◌∙◌}
 use borrow.Author.Tests.{not-true, not-false}
 use Rattle.refusal.specs.Laws.{refuse}
 use Rattle.id_tables.proofs.Looking.{set_past, set_absent, set_done}

@@ -1,5 +1,4 @@
 -- `id_tables::set_place` meets its contract: each return is a way through its rule.
-use Rattle.std.proofs.Common.{rules}
 use Rattle.refusal.specs.Laws.{refuse, via, told}
 use Rattle.handle.specs.OnBits.{on_first, on_zero, on_good}
 use Rattle.id_tables.specs.Lookup.{setting_place}

@@ -1,5 +1,5 @@
 -- `id_tables::runs::any_damaged` meets its contract: a number that the tables do not have is damaged, and of the others their entries decide.
-use Rattle.std.proofs.Common.{sym, ◌∙◌, rules}
+use Rattle.std.proofs.Common.{sym, ◌∙◌}
 use Rattle.id_tables.proofs.Scanning.{any_outside, any_within, any_inside}
 use Rattle.id_tables.proofs.runs.any_damaged.Goals as goal
 

@@ -1,6 +1,5 @@
-use Rattle.std.proofs.Common.{◌-◌, length, drop, ⊎_elim, rules, eq-eqb, ne_eqb}
-use Rattle.id_tables.specs.Lookup.{any_is}
-use Rattle.id_tables.proofs.Scanning.{Sofar, none_yet, hit, miss, all_seen, any_cons, any_end}
+use Rattle.std.proofs.Common.{eq-eqb, ne_eqb}
+use Rattle.id_tables.proofs.Scanning.{hit, miss, all_seen, any_cons, any_end}
 use Rattle.id_tables.proofs.runs.any_is.Goals as goal
 use Rattle.id_tables.proofs.runs.any_is.Goals.{then-entries-i, else-entries-i}
 

@@ -1,7 +1,7 @@
 -- `id_tables::runs::any_is` meets its contract. The loop's invariant: what was found so far, or what is left, decides.
-use Rattle.std.proofs.Common.{◌-◌, length, drop, ⊎_elim, rules, eq-eqb, ne_eqb}
+use Rattle.std.proofs.Common.{◌-◌, length, drop}
 use Rattle.id_tables.specs.Lookup.{any_is}
-use Rattle.id_tables.proofs.Scanning.{Sofar, none_yet, hit, miss, all_seen, any_cons, any_end}
+use Rattle.id_tables.proofs.Scanning.{Sofar}
 use Rattle.id_tables.proofs.runs.any_is.Given as goal
 
 abbrev pub invariant-loop-i : goal.invariant-loop-i

@@ -1,7 +1,6 @@
-use Rattle.std.proofs.Common.{◌-◌, length, drop, ⊎_elim, rules, le-leb}
+use Rattle.std.proofs.Common.{le-leb}
 use borrow.Author.Tests.{lt-leb}
-use Rattle.id_tables.specs.Runs.{any_past}
-use Rattle.id_tables.proofs.Scanning.{Sofar, none_yet, hit, miss, all_seen, past_cons, past_end}
+use Rattle.id_tables.proofs.Scanning.{hit, miss, all_seen, past_cons, past_end}
 use Rattle.id_tables.proofs.runs.any_past.Goals as goal
 use Rattle.id_tables.proofs.runs.any_past.Goals.{then-limit-numbers, else-limit-numbers}
 

@@ -1,8 +1,7 @@
 -- `id_tables::runs::any_past` meets its contract. The loop's invariant: what was found so far, or what is left, decides.
-use Rattle.std.proofs.Common.{◌-◌, length, drop, ⊎_elim, rules, le-leb}
-use borrow.Author.Tests.{lt-leb}
+use Rattle.std.proofs.Common.{◌-◌, length, drop}
 use Rattle.id_tables.specs.Runs.{any_past}
-use Rattle.id_tables.proofs.Scanning.{Sofar, none_yet, hit, miss, all_seen, past_cons, past_end}
+use Rattle.id_tables.proofs.Scanning.{Sofar}
 use Rattle.id_tables.proofs.runs.any_past.Given as goal
 
 abbrev pub invariant-loop-i : goal.invariant-loop-i

@@ -1,9 +1,8 @@
-use Rattle.std.proofs.Common.{◌-◌, ◌≤◌, length, get_or, drop, refl, ◌∙◌, ⊎_elim, arith, rules}
+use Rattle.std.proofs.Common.{◌≤◌, get_or, refl, ◌∙◌, arith, rules}
 use lib.Bits.{and_le_l}
 use Rattle.handle.specs.Bits.{MAX}
-use Rattle.id_tables.specs.Ids.{any_damaged_in}
 use Rattle.id_tables.proofs.Damage.{damage_none, below_at}
-use Rattle.id_tables.proofs.Scanning.{Sofar, all_seen, lost, none_lost, lost_some, lost_is, lost_zero, lost_not}
+use Rattle.id_tables.proofs.Scanning.{all_seen, none_lost, lost_some, lost_is, lost_zero, lost_not}
 use Rattle.id_tables.proofs.runs.any_unfit.Goals as goal
 use Rattle.id_tables.proofs.runs.any_unfit.Goals.{then-generations-n-eq0, else-generations-n-eq0}
 

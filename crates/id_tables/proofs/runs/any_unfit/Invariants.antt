@@ -1,10 +1,8 @@
 -- `id_tables::runs::any_unfit` meets its contract. The loop's invariant: what the count of zeros and the shared bits say so far, or what is left, decides.
-use Rattle.std.proofs.Common.{◌-◌, ◌≤◌, length, get_or, drop, refl, ◌∙◌, ⊎_elim, arith, rules}
-use lib.Bits.{and_le_l}
+use Rattle.std.proofs.Common.{◌-◌, ◌≤◌, length, drop}
 use Rattle.handle.specs.Bits.{MAX}
 use Rattle.id_tables.specs.Ids.{any_damaged_in}
-use Rattle.id_tables.proofs.Damage.{damage_none, below_at}
-use Rattle.id_tables.proofs.Scanning.{Sofar, all_seen, lost, none_lost, lost_some, lost_is, lost_zero, lost_not}
+use Rattle.id_tables.proofs.Scanning.{Sofar, lost}
 use Rattle.id_tables.proofs.runs.any_unfit.Given as goal
 
 abbrev pub invariant-loop-i : goal.invariant-loop-i

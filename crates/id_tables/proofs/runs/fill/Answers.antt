@@ -1,5 +1,4 @@
-use Rattle.std.proofs.Common.{◌≡◌, ◌-◌, length, replicate, sym, refl, ◌∙◌, arith, rules}
-use lib.Seq.{sets}
+use Rattle.std.proofs.Common.{sym, ◌∙◌, arith, rules}
 use Rattle.id_tables.proofs.Filling.{fill_one, fill_none}
 use Rattle.id_tables.proofs.runs.fill.Goals as goal
 

@@ -1,7 +1,6 @@
 -- `id_tables::runs::fill` meets its contract. The loop's invariant: what is left to store, stored, makes the whole. The measure is how much is left.
-use Rattle.std.proofs.Common.{◌≡◌, ◌-◌, length, replicate, sym, refl, ◌∙◌, arith, rules}
+use Rattle.std.proofs.Common.{◌≡◌, ◌-◌, length, replicate}
 use lib.Seq.{sets}
-use Rattle.id_tables.proofs.Filling.{fill_one, fill_none}
 use Rattle.id_tables.proofs.runs.fill.Given as goal
 
 abbrev pub invariant-loop-i : goal.invariant-loop-i

@@ -1,5 +1,4 @@
-use Rattle.std.proofs.Common.{◌≡◌, ◌+◌, ◌-◌, ◌≤◌, length, drop, sym, refl, ◌∙◌, arith, rules}
-use Rattle.id_tables.specs.Lookup.{any_is}
+use Rattle.std.proofs.Common.{◌+◌, sym, ◌∙◌, arith, rules}
 use Rattle.id_tables.proofs.Parts.{part_end}
 use Rattle.id_tables.proofs.Scanning.{block_has, block_lacks}
 use Rattle.id_tables.proofs.runs.has.Goals as goal

@@ -1,8 +1,6 @@
 -- `id_tables::runs::has` meets its contract. The loop's invariant: what is left of the entries decides.
-use Rattle.std.proofs.Common.{◌≡◌, ◌+◌, ◌-◌, ◌≤◌, length, drop, sym, refl, ◌∙◌, arith, rules}
+use Rattle.std.proofs.Common.{◌≡◌, ◌-◌, ◌≤◌, length, drop}
 use Rattle.id_tables.specs.Lookup.{any_is}
-use Rattle.id_tables.proofs.Parts.{part_end}
-use Rattle.id_tables.proofs.Scanning.{block_has, block_lacks}
 use Rattle.id_tables.proofs.runs.has.Given as goal
 
 abbrev pub invariant-loop-i : goal.invariant-loop-i

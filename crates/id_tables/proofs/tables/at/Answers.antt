@@ -1,5 +1,5 @@
 -- `id_tables::at` meets its contract: past the end the default stands.
-use Rattle.std.proofs.Common.{sym, rules}
+use Rattle.std.proofs.Common.{sym}
 use lib.ListN.{get_or-eq_default}
 use Rattle.id_tables.proofs.tables.at.Goals as goal
 

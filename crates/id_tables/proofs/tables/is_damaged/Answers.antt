@@ -1,5 +1,5 @@
 -- `id_tables::is_damaged` meets its contract: each return rewrites with the tests that led there.
-use Rattle.std.proofs.Common.{rules, eq-eqb, ne_eqb, le-leb}
+use Rattle.std.proofs.Common.{eq-eqb, ne_eqb, le-leb}
 use borrow.Author.Tests.{lt-leb}
 use Rattle.id_tables.specs.Ids.{damaged_in}
 use Rattle.id_tables.proofs.tables.is_damaged.Goals as goal

@@ -1,5 +1,5 @@
 -- `id_tables::is_live` meets its contract: each return rewrites with the tests that led there.
-use Rattle.std.proofs.Common.{rules, le-ltb, lt-ltb, eq-eqb, ne_eqb}
+use Rattle.std.proofs.Common.{le-ltb, lt-ltb, eq-eqb, ne_eqb}
 use Rattle.id_tables.specs.Ids.{live_in}
 use Rattle.id_tables.proofs.tables.is_live.Goals as goal
 

@@ -1,5 +1,4 @@
 -- `id_tables::place_at` meets its contract: the two entries are read.
-use Rattle.std.proofs.Common.{rules}
 use Rattle.id_tables.proofs.tables.place_at.Goals as goal
 
 pub returns : goal.returns

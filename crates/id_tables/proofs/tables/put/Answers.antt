@@ -1,5 +1,5 @@
 -- `id_tables::put` meets its contract: past the end a store changes nothing.
-use Rattle.std.proofs.Common.{sym, rules}
+use Rattle.std.proofs.Common.{sym}
 use lib.Seq.{set_out}
 use Rattle.id_tables.proofs.tables.put.Goals as goal
 

@@ -1,7 +1,6 @@
 -- `id_tables::clear` meets its contract: past the first tests, the empty head.
 use Rattle.refusal.specs.Laws.{grant, refuse, past, halted, told}
 use Rattle.id_tables.specs.Lookup.{clearing}
-use Rattle.std.proofs.Common.{rules}
 use Rattle.id_tables.proofs.whole.clear.Goals as goal
 
 pub returns-in-Refused : goal.returns-in-Refused

@@ -1,5 +1,5 @@
 -- `id_tables::generation_of` meets its contract: each return rewrites with the test that led there.
-use Rattle.std.proofs.Common.{rules, le-ltb, lt-ltb}
+use Rattle.std.proofs.Common.{le-ltb, lt-ltb}
 use Rattle.id_tables.proofs.whole.generation_of.Goals as goal
 
 pub returns-then-number-used : goal.returns-then-number-used

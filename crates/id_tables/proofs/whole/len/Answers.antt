@@ -1,5 +1,5 @@
 -- `id_tables::len` meets its contract: past the first tests, the live count.
-use Rattle.std.proofs.Common.{sym, rules}
+use Rattle.std.proofs.Common.{sym}
 use Rattle.refusal.specs.Laws.{past, halted, told}
 use Rattle.id_tables.specs.Lookup.{counting}
 use Rattle.id_tables.proofs.whole.len.Goals as goal

@@ -1,5 +1,5 @@
 -- `id_tables::resolve_unknown_gen` meets its contract: each return is a way through its rule.
-use Rattle.std.proofs.Common.{sym, arith, rules}
+use Rattle.std.proofs.Common.{sym, arith}
 use Rattle.refusal.specs.Laws.{stop, told}
 use Rattle.id_tables.specs.Lookup.{resolving}
 use Rattle.id_tables.proofs.Entering.{entry_ok}

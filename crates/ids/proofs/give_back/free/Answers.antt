@@ -1,5 +1,4 @@
 -- `ids::free` meets its contract: each return is a way through its rule.
-use borrow.Author.Rules.{rules}
 use Rattle.refusal.specs.Laws.{refuse, via, told}
 use Rattle.handle.specs.OnBits.{on_first, on_zero, on_good}
 use Rattle.id_tables.proofs.Entering.{entry_ok}

@@ -3,7 +3,6 @@ use mathlib.Core.Path.{ap}
 use mathlib.Core.Bool.{not}
 use mathlib.Core.Path.{sym, ◌∙◌}
 use native.Mathlib.Omega.{arith}
-use borrow.Author.Rules.{rules}
 use borrow.Author.Tests.{not-true, not-false}
 use Rattle.ids.proofs.Freeing.{free_unflushed, free_absent, free_none_live, free_did}
 use Rattle.ids.proofs.give_back.freed.Goals as goal

@@ -1,5 +1,4 @@
 -- `ids::give_back::next_generation` meets its contract: the rule's test is the code's.
-use borrow.Author.Rules.{rules}
 use borrow.Author.Tests.{eq-eqb, ne_eqb}
 use Rattle.ids.proofs.give_back.next_generation.Goals as goal
 

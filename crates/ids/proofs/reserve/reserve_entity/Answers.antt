@@ -1,7 +1,6 @@
 -- `ids::reserve_entity` meets its contract: each return is a way through its rule.
 use mathlib.Core.Path.{refl, sym, ◌∙◌}
 use native.Mathlib.Omega.{arith}
-use borrow.Author.Rules.{rules}
 use Rattle.refusal.specs.Laws.{refuse, told, stop}
 use Rattle.id_tables.proofs.Entering.{entry_ok}
 use Rattle.id_tables.proofs.Meaning.{undamaged}

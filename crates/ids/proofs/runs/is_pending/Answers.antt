@@ -1,6 +1,5 @@
 -- `ids::runs::is_pending` meets its contract: the position is asked for where the list reaches its count.
 use Rattle.ids.proofs.Stepping.{short_list}
-use borrow.Author.Rules.{rules}
 use Rattle.ids.proofs.runs.is_pending.Goals as goal
 
 pub returns-then-pending-count : goal.returns-then-pending-count

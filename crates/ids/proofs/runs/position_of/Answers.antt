@@ -1,10 +1,4 @@
-use Prim.Native.Nat.{◌+◌, ◌-◌, ◌≤◌}
-use mathlib.Core.Path.{◌≡◌}
 use native.Mathlib.Omega.{arith}
-use borrow.Author.Rules.{rules}
-use lib.ListN.{take}
-use lib.Seq.{slice}
-use Rattle.ids.specs.AllocAt.{position_of}
 use Rattle.ids.proofs.Stepping.{found_here, found_later, found_nowhere}
 use Rattle.ids.proofs.runs.position_of.Goals as goal
 

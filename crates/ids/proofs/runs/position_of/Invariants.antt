@@ -1,12 +1,9 @@
 -- `ids::runs::position_of` meets its contract. The loop's invariant: the position is that in what is left, counted from i. The measure is how much is left.
 use Prim.Native.Nat.{◌+◌, ◌-◌, ◌≤◌}
 use mathlib.Core.Path.{◌≡◌}
-use native.Mathlib.Omega.{arith}
-use borrow.Author.Rules.{rules}
 use lib.ListN.{take}
 use lib.Seq.{slice}
 use Rattle.ids.specs.AllocAt.{position_of}
-use Rattle.ids.proofs.Stepping.{found_here, found_later, found_nowhere}
 use Rattle.ids.proofs.runs.position_of.Given as goal
 
 abbrev pub invariant-loop-i : goal.invariant-loop-i

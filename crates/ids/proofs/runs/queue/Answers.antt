@@ -1,9 +1,5 @@
-use Prim.Native.Nat.{◌+◌, ◌-◌, ◌≤◌}
-use mathlib.Core.Path.{◌≡◌, refl, sym, ◌∙◌}
+use mathlib.Core.Path.{sym, ◌∙◌}
 use borrow.Author.Rules.{rules}
-use lib.ListN.{length}
-use lib.Seq.{sets}
-use Rattle.id_tables.specs.Runs.{up_from}
 use Rattle.ids.proofs.Stepping.{queue_one, queue_none}
 use Rattle.ids.proofs.runs.queue.Goals as goal
 

@@ -1,11 +1,9 @@
 -- `ids::runs::queue` meets its contract. The loop's invariant: what is left to store, stored, makes the whole. The measure is how much is left.
 use Prim.Native.Nat.{◌+◌, ◌-◌, ◌≤◌}
-use mathlib.Core.Path.{◌≡◌, refl, sym, ◌∙◌}
-use borrow.Author.Rules.{rules}
+use mathlib.Core.Path.{◌≡◌}
 use lib.ListN.{length}
 use lib.Seq.{sets}
 use Rattle.id_tables.specs.Runs.{up_from}
-use Rattle.ids.proofs.Stepping.{queue_one, queue_none}
 use Rattle.ids.proofs.runs.queue.Given as goal
 
 abbrev pub invariant-loop-number : goal.invariant-loop-number

@@ -1,5 +1,4 @@
 -- `ids::take_chosen::alloced_at` meets its contract: the tests refuse, or the number's case decides.
-use borrow.Author.Rules.{rules}
 use Rattle.refusal.specs.Laws.{refuse, via, told}
 use Rattle.ids.proofs.Passing.{chosen_ok}
 use Rattle.ids.proofs.Choosing.{stops, goes_past, goes_pending, goes_over}

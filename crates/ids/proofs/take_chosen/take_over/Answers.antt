@@ -1,5 +1,4 @@
 -- `ids::take_chosen::take_over` meets its contract: no place is damage, and else the old place is answered.
-use borrow.Author.Rules.{rules}
 use Rattle.ids.proofs.Choosing.{over_did, over_refused}
 use Rattle.ids.proofs.take_chosen.take_over.Goals as goal
 

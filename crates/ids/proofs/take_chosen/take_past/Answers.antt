@@ -1,5 +1,4 @@
 -- `ids::take_chosen::take_past` meets its contract: the gap is filled, then the number is settled.
-use borrow.Author.Rules.{rules}
 use Rattle.ids.proofs.Choosing.{past_did}
 use Rattle.ids.proofs.take_chosen.take_past.Goals as goal
 

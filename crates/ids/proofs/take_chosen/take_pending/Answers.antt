@@ -1,7 +1,6 @@
 -- `ids::take_chosen::take_pending` meets its contract: damage is refused, and else the last entry is moved and the number settled.
 use mathlib.Core.Path.{sym, ◌∙◌}
 use native.Mathlib.Omega.{arith}
-use borrow.Author.Rules.{rules}
 use Rattle.ids.proofs.Choosing.{pending_did, pending_refused}
 use Rattle.ids.proofs.take_chosen.take_pending.Goals as goal
 

@@ -1,6 +1,5 @@
 -- `ids::alloc` meets its contract: the tests refuse, or one of two steps grants.
 use native.Mathlib.Nat.{pos_of_ne-zero}
-use borrow.Author.Rules.{rules}
 use Rattle.refusal.specs.Laws.{refuse, via, told, halted}
 use Rattle.ids.specs.Alloc.{allocating}
 use Rattle.ids.proofs.Passing.{alloc_ok}

@@ -1,5 +1,4 @@
 -- `ids::take_next::alloc_last` meets its contract: the number's place is written, and nothing else.
-use borrow.Author.Rules.{rules}
 use Rattle.ids.proofs.Giving.{makes_handle}
 use Rattle.ids.proofs.Allocating.{last_did}
 use Rattle.ids.proofs.take_next.alloc_last.Goals as goal

@@ -1,5 +1,4 @@
 -- `ids::take_next::alloc_new` meets its contract: generation 1 and the place are written, and nothing else.
-use borrow.Author.Rules.{rules}
 use Rattle.ids.proofs.Allocating.{new_did}
 use Rattle.ids.proofs.take_next.alloc_new.Goals as goal
 

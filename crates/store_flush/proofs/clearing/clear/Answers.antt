@@ -1,6 +1,5 @@
 -- `store_flush::clearing::clear` meets its contract: each return is a way through its rule.
 use mathlib.Core.Path.{sym, ◌∙◌}
-use borrow.Author.Rules.{rules}
 use Rattle.refusal.specs.Laws.{refuse, told}
 use Rattle.store_flush.proofs.Ways.{clear_first, clear_held, clear_done}
 use Rattle.store_flush.proofs.clearing.clear.Goals as goal

@@ -1,10 +1,7 @@
-use Prim.Native.Nat.{◌≤◌, ◌-◌}
-use mathlib.Core.Path.{◌≡◌, refl, ◌∙◌}
+use mathlib.Core.Path.{refl, ◌∙◌}
 use native.Mathlib.Nat.{zero-add}
 use borrow.Author.Rules.{rules}
-use lib.ListN.{length, replicate}
-use Rattle.id_tables.specs.Runs.{up_from}
-use Rattle.id_batches.proofs.Setting.{Rest, rest_all, rest_none, same_next, up_in, up_here, up_end}
+use Rattle.id_batches.proofs.Setting.{rest_all, rest_none, same_next, up_in, up_here, up_end}
 use Rattle.store_flush.proofs.Runs.{all_zero}
 use Rattle.store_flush.proofs.clearing.empty.Goals as goal
 

@@ -1,12 +1,9 @@
 -- `store_flush::clearing::empty` meets its contract. The loop's invariant: what is left to empty, of a table of the same length.
 use Prim.Native.Nat.{◌≤◌, ◌-◌}
-use mathlib.Core.Path.{◌≡◌, refl, ◌∙◌}
-use native.Mathlib.Nat.{zero-add}
-use borrow.Author.Rules.{rules}
+use mathlib.Core.Path.{◌≡◌}
 use lib.ListN.{length, replicate}
 use Rattle.id_tables.specs.Runs.{up_from}
-use Rattle.id_batches.proofs.Setting.{Rest, rest_all, rest_none, same_next, up_in, up_here, up_end}
-use Rattle.store_flush.proofs.Runs.{all_zero}
+use Rattle.id_batches.proofs.Setting.{Rest}
 use Rattle.store_flush.proofs.clearing.empty.Given as goal
 
 abbrev pub invariant-loop-i : goal.invariant-loop-i

@@ -1,5 +1,4 @@
 -- `store_flush::flushing::flush` meets its contract: the first tests, then what is left.
-use borrow.Author.Rules.{rules}
 use Rattle.refusal.specs.Laws.{refuse, via, told, halted, past}
 use Rattle.store_tables.proofs.Entering.{entered}
 use Rattle.store_flush.specs.Flush.{flushing}

@@ -1,6 +1,5 @@
 -- `store_flush::flushing::seat_reserved` meets its contract: each return is a way through its rule.
 use mathlib.Core.Path.{sym, ◌∙◌}
-use borrow.Author.Rules.{rules}
 use Rattle.refusal.specs.Laws.{refuse}
 use Rattle.store_flush.proofs.Ways.{seat_held, seat_full, list_needs, seat_refused, seat_done}
 use Rattle.store_flush.proofs.flushing.seat_reserved.Goals as goal

@@ -1,11 +1,9 @@
 -- `store_flush::listing::list_new` meets its contract. The loop's invariant: what is left to write, of a table of the same length.
 use Prim.Native.Nat.{◌≤◌, ◌-◌}
-use mathlib.Core.Path.{◌≡◌, refl}
-use borrow.Author.Rules.{rules}
+use mathlib.Core.Path.{◌≡◌}
 use lib.ListN.{length}
 use Rattle.id_tables.specs.Runs.{up_from}
-use Rattle.id_batches.proofs.Setting.{Rest, rest_all, up_in, up_here, up_end}
-use Rattle.store_flush.proofs.Runs.{list_next, list_end}
+use Rattle.id_batches.proofs.Setting.{Rest}
 use Rattle.store_flush.proofs.listing.list_new.Given as goal
 
 abbrev pub invariant-loop-i : goal.invariant-loop-i

@@ -1,10 +1,6 @@
-use Prim.Native.Nat.{◌≤◌, ◌-◌}
-use mathlib.Core.Path.{◌≡◌, refl}
-use native.Mathlib.Omega.{arith}
+use mathlib.Core.Path.{refl}
 use borrow.Author.Rules.{rules}
-use lib.ListN.{length}
-use Rattle.id_tables.specs.Runs.{up_from}
-use Rattle.id_batches.proofs.Setting.{Rest, rest_all}
+use Rattle.id_batches.proofs.Setting.{rest_all}
 use Rattle.store_flush.proofs.Runs.{list_next, list_end}
 use Rattle.store_flush.proofs.listing.list_old.Goals as goal
 

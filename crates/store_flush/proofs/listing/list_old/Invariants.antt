@@ -1,12 +1,9 @@
 -- `store_flush::listing::list_old` meets its contract. The loop's invariant: what is left to write, of a table of the same length.
 use Prim.Native.Nat.{◌≤◌, ◌-◌}
-use mathlib.Core.Path.{◌≡◌, refl}
-use native.Mathlib.Omega.{arith}
-use borrow.Author.Rules.{rules}
+use mathlib.Core.Path.{◌≡◌}
 use lib.ListN.{length}
 use Rattle.id_tables.specs.Runs.{up_from}
-use Rattle.id_batches.proofs.Setting.{Rest, rest_all}
-use Rattle.store_flush.proofs.Runs.{list_next, list_end}
+use Rattle.id_batches.proofs.Setting.{Rest}
 use Rattle.store_flush.proofs.listing.list_old.Given as goal
 
 abbrev pub invariant-loop-i : goal.invariant-loop-i

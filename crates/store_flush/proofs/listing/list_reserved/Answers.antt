@@ -1,5 +1,4 @@
 -- `store_flush::listing::list_reserved` meets its contract: two runs make one.
-use borrow.Author.Rules.{rules}
 use Rattle.store_flush.proofs.Ways.{lists_reserved}
 use Rattle.store_flush.proofs.listing.list_reserved.Goals as goal
 

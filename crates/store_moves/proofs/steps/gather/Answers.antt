@@ -1,5 +1,4 @@
 -- `store_moves::gather` meets its contract: the row's line and the archetype's sizes.
-use borrow.Author.Rules.{rules}
 use Rattle.store_moves.proofs.steps.gather.Goals as goal
 
 pub returns : goal.returns

@@ -1,6 +1,5 @@
 -- `store_moves::gather_row` meets its contract: the parts of the sizes are the columns before and those after.
 use Rattle.store_moves.proofs.Stepping.{gathers}
-use borrow.Author.Rules.{rules}
 use Rattle.store_moves.proofs.steps.gather_row.Goals as goal
 
 pub returns : goal.returns

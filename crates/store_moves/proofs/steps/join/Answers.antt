@@ -1,5 +1,4 @@
 -- `store_moves::join` meets its contract: the columns before, the value, the columns after.
-use borrow.Author.Rules.{rules}
 use Rattle.store_moves.proofs.Stepping.{joins}
 use Rattle.store_moves.proofs.steps.join.Goals as goal
 

@@ -1,6 +1,5 @@
 -- `store_moves::move_row` meets its contract: the new row is taken, the old one leaves, the place is written.
 use Rattle.store_moves.proofs.Stepping.{moves}
-use borrow.Author.Rules.{rules}
 use Rattle.store_moves.proofs.steps.move_row.Goals as goal
 
 pub returns : goal.returns

@@ -1,5 +1,4 @@
 -- `store_moves::is_changed` meets its contract: a number was put in, or one taken out.
-use borrow.Author.Rules.{rules}
 use Rattle.store_moves.proofs.Seeking.{told_added, told_taken}
 use Rattle.store_moves.proofs.target.is_changed.Goals as goal
 

@@ -1,5 +1,4 @@
 -- `store_moves::is_with` meets its contract: the number stands at the place, and without it the lists are the same.
-use borrow.Author.Rules.{rules}
 use Rattle.store_moves.proofs.Splicing.{too_short, another, with_is}
 use Rattle.store_moves.proofs.target.is_with.Goals as goal
 

@@ -1,9 +1,6 @@
-use Prim.Native.Nat.{◌-◌, ◌≤◌}
 use mathlib.Core.Path.{sym, ◌∙◌}
 use borrow.Author.Rules.{rules}
-use lib.ListN.{length}
-use Rattle.store_moves.specs.Lists.{taken_out}
-use Rattle.store_moves.proofs.Splicing.{Agree, agree_none, agree_more, agree_all, not_long, not_there}
+use Rattle.store_moves.proofs.Splicing.{agree_none, agree_more, agree_all, not_long, not_there}
 use Rattle.store_moves.proofs.target.is_without.Goals as goal
 
 pub returns-then-ys-left_of : goal.returns-then-ys-left_of

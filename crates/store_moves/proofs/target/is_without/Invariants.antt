@@ -1,10 +1,8 @@
 -- `store_moves::is_without` meets its contract. The loop's invariant: the two lists agree so far. The measure is how much is left.
 use Prim.Native.Nat.{◌-◌, ◌≤◌}
-use mathlib.Core.Path.{sym, ◌∙◌}
-use borrow.Author.Rules.{rules}
 use lib.ListN.{length}
 use Rattle.store_moves.specs.Lists.{taken_out}
-use Rattle.store_moves.proofs.Splicing.{Agree, agree_none, agree_more, agree_all, not_long, not_there}
+use Rattle.store_moves.proofs.Splicing.{Agree}
 use Rattle.store_moves.proofs.target.is_without.Given as goal
 
 abbrev pub invariant-loop-k : goal.invariant-loop-k

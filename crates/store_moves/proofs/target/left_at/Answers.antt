@@ -1,5 +1,4 @@
 -- `store_moves::left_at` meets its contract: before the place, past the end, after the place.
-use borrow.Author.Rules.{rules}
 use Rattle.store_moves.proofs.Splicing.{left_before, left_past, left_after}
 use Rattle.store_moves.proofs.target.left_at.Goals as goal
 

@@ -1,5 +1,4 @@
 -- `store_moves::left_of` meets its contract.
-use borrow.Author.Rules.{rules}
 use Rattle.store_moves.proofs.Splicing.{left_all, left_out}
 use Rattle.store_moves.proofs.target.left_of.Goals as goal
 

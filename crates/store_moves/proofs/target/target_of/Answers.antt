@@ -1,9 +1,5 @@
-use Prim.Native.Nat.{◌-◌, ◌≤◌}
 use borrow.Author.Rules.{rules}
-use lib.ListN.{length}
-use Rattle.decl.specs.Decl.{decl_of}
-use Rattle.store_moves.specs.Target.{changed}
-use Rattle.store_moves.proofs.Seeking.{Sought, sought_none, sought_more, sought_here, sought_done}
+use Rattle.store_moves.proofs.Seeking.{sought_none, sought_more, sought_here, sought_done}
 use Rattle.store_moves.proofs.target.target_of.Goals as goal
 
 pub loop-a-init : goal.loop-a-init

@@ -1,10 +1,9 @@
 -- `store_moves::target_of` meets its contract. The loop's invariant: no archetype so far is of the types, and `from` is where the next one's begin. The measure is how many archetypes are left.
 use Prim.Native.Nat.{◌-◌, ◌≤◌}
-use borrow.Author.Rules.{rules}
 use lib.ListN.{length}
 use Rattle.decl.specs.Decl.{decl_of}
 use Rattle.store_moves.specs.Target.{changed}
-use Rattle.store_moves.proofs.Seeking.{Sought, sought_none, sought_more, sought_here, sought_done}
+use Rattle.store_moves.proofs.Seeking.{Sought}
 use Rattle.store_moves.proofs.target.target_of.Given as goal
 
 abbrev pub invariant-loop-a : goal.invariant-loop-a

@@ -1,9 +1,5 @@
-use Prim.Native.Nat.{◌+◌, ◌-◌, ◌≤◌}
-use mathlib.Core.Path.{◌≡◌}
 use borrow.Author.Rules.{rules}
 use native.Mathlib.Omega.{arith}
-use lib.ListN.{length, drop}
-use Rattle.store_moves.specs.Target.{types_before}
 use Rattle.store_moves.proofs.Seeking.{before_here, before_more, before_all}
 use Rattle.store_moves.proofs.target.types_before.Goals as goal
 

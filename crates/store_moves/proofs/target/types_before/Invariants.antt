@@ -1,11 +1,8 @@
 -- `store_moves::types_before` meets its contract. The loop's invariant: those so far come before, and what is left decides. The measure is how much is left.
 use Prim.Native.Nat.{◌+◌, ◌-◌, ◌≤◌}
 use mathlib.Core.Path.{◌≡◌}
-use borrow.Author.Rules.{rules}
-use native.Mathlib.Omega.{arith}
 use lib.ListN.{length, drop}
 use Rattle.store_moves.specs.Target.{types_before}
-use Rattle.store_moves.proofs.Seeking.{before_here, before_more, before_all}
 use Rattle.store_moves.proofs.target.types_before.Given as goal
 
 abbrev pub invariant-loop-k : goal.invariant-loop-k

@@ -1,5 +1,4 @@
 -- `store_moves::move_tested` meets its contract: each return is a way through its tests.
-use borrow.Author.Rules.{rules}
 use mathlib.Core.Path.{sym, ◌∙◌}
 use Rattle.store_moves.proofs.Testing.{held, no_row, moved_damaged_lem, passes}
 use Rattle.store_moves.proofs.tests.move_tested.Goals as goal

@@ -2,7 +2,6 @@
 -- the archetype's columns are within the types and the sizes, and the column that is found is one of them
 use Prim.Native.Nat.{◌+◌, ◌≤◌, ◌<◌}
 use native.Mathlib.Omega.{arith}
-use borrow.Author.Rules.{rules}
 use lib.ListN.{length}
 use Rattle.store_reads.proofs.Cells.{types_fit, sizes_fit, cell_missing, column_within_span, cell_found}
 use Rattle.store_reads.proofs.component.find_cell.Goals as goal

@@ -1,6 +1,5 @@
 -- `store_reads::find_component` meets its contract: each case of the place by itself.
 use mathlib.Core.Path.{refl}
-use borrow.Author.Rules.{rules}
 use Rattle.store_reads.specs.Steps.{component_for}
 use Rattle.store_reads.proofs.Locating.{for_placed, in_placed}
 use Rattle.store_reads.proofs.component.find_component.Goals as goal

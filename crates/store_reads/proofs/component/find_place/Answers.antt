@@ -1,6 +1,5 @@
 -- `store_reads::find_place` meets its contract: what get says of the handle, then what its row holds.
 use mathlib.Core.Path.{sym, ap, ◌∙◌}
-use borrow.Author.Rules.{rules}
 use Rattle.id_tables.specs.Lookup.{found_of}
 use Rattle.store_tables.specs.Seen.{own_of}
 use Rattle.store_reads.specs.Steps.{PlacedAs}

@@ -1,6 +1,5 @@
 -- `store_reads::word_at` meets its contract: past the end there is no word.
 use mathlib.Core.Path.{sym}
-use borrow.Author.Rules.{rules}
 use lib.ListN.{get_or-eq_default}
 use Rattle.store_reads.proofs.component.word_at.Goals as goal
 

@@ -1,6 +1,5 @@
 -- `store_reads::contains` meets its contract: past the first tests, what the id layer says.
 use mathlib.Core.Path.{sym, ◌∙◌}
-use borrow.Author.Rules.{rules}
 use Rattle.refusal.specs.Laws.{past, halted, told}
 use Rattle.store_reads.specs.Lookup.{containing}
 use Rattle.store_reads.proofs.lookups.contains.Goals as goal

@@ -1,6 +1,5 @@
 -- `store_reads::found_at` meets its contract: each case of the place by itself.
 use mathlib.Core.Path.{refl}
-use borrow.Author.Rules.{rules}
 use Rattle.store_reads.specs.Steps.{place_for}
 use Rattle.store_reads.proofs.Looking.{for_found}
 use Rattle.store_reads.proofs.lookups.found_at.Goals as goal

@@ -1,6 +1,5 @@
 -- `store_reads::get` meets its contract: the first tests, the bits, then the place of the handle.
 use mathlib.Core.Path.{sym, ◌∙◌}
-use borrow.Author.Rules.{rules}
 use Rattle.refusal.specs.Laws.{told}
 use Rattle.handle.specs.OnBits.{on_first, on_zero, on_good}
 use Rattle.store_tables.proofs.Entering.{entered}

@@ -1,6 +1,5 @@
 -- `store_reads::read_bytes` meets its contract: the part that `read` answers, or none.
 use mathlib.Core.Path.{sym, ap, ◌∙◌}
-use borrow.Author.Rules.{rules}
 use Rattle.store_reads.specs.Read.{part_of}
 use Rattle.store_reads.proofs.Reading.{bytes_none, bytes_some}
 use Rattle.store_reads.proofs.reads.read_bytes.Goals as goal

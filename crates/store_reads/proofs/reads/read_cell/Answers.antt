@@ -1,6 +1,5 @@
 -- `store_reads::read_cell` meets its contract: a refusal stays, else the cell's word decides.
 use mathlib.Core.Path.{refl}
-use borrow.Author.Rules.{rules}
 use Rattle.store_reads.proofs.Reading.{through, cell_held, cell_free}
 use Rattle.store_reads.proofs.reads.read_cell.Goals as goal
 

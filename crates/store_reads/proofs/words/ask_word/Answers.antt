@@ -1,6 +1,5 @@
 -- `store_reads::ask_word` meets its contract: the first tests, then the column that is named.
 use mathlib.Core.Path.{sym, ◌∙◌}
-use borrow.Author.Rules.{rules}
 use Rattle.refusal.specs.Laws.{past, halted, told}
 use Rattle.store_tables.proofs.Entering.{entered}
 use Rattle.store_reads.specs.Words.{word_asked}

@@ -1,6 +1,5 @@
 -- `store_reads::done` meets its contract: a word was granted, or the refusal stays.
 use mathlib.Core.Path.{refl}
-use borrow.Author.Rules.{rules}
 use Rattle.store_reads.proofs.Holding.{for_borrowed}
 use Rattle.store_reads.proofs.words.done.Goals as goal
 

@@ -1,7 +1,6 @@
 -- `store_reads::find_word` meets its contract: the archetype, then the column that the search finds in its types.
 use Prim.Native.Nat.{◌+◌, ◌≤◌}
 use native.Mathlib.Omega.{arith}
-use borrow.Author.Rules.{rules}
 use lib.ListN.{length}
 use Rattle.store_reads.proofs.Holding.{name_place, name_fits, name_missing, name_within, name_found}
 use Rattle.store_reads.proofs.words.find_word.Goals as goal

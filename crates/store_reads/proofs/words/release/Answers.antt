@@ -1,6 +1,5 @@
 -- `store_reads::release` meets its contract: the column's word, then what its rule says of it.
 use mathlib.Core.Path.{sym, ap, ◌∙◌}
-use borrow.Author.Rules.{rules}
 use Rattle.store_reads.specs.Words.{word_of}
 use Rattle.store_reads.proofs.Holding.{hold_refused, hold_did}
 use Rattle.store_reads.proofs.words.release.Goals as goal

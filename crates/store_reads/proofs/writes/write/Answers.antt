@@ -1,5 +1,4 @@
 -- `store_reads::write` meets its contract: the first tests, the bits, then the component of the handle and its word.
-use borrow.Author.Rules.{rules}
 use Rattle.refusal.specs.Laws.{refuse, told}
 use Rattle.store_tables.proofs.Entering.{entered}
 use Rattle.store_reads.proofs.Locating.{placed_in}

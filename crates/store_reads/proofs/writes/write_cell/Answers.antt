@@ -1,6 +1,5 @@
 -- `store_reads::write_cell` meets its contract: a refusal stays, else the cell's word decides.
 use mathlib.Core.Path.{refl}
-use borrow.Author.Rules.{rules}
 use Rattle.refusal.specs.Laws.{refuse}
 use Rattle.store_reads.proofs.Writing.{did_through, stored_held, stored_free}
 use Rattle.store_reads.proofs.writes.write_cell.Goals as goal

@@ -1,5 +1,4 @@
 -- `id_batches::many::AllocManyState::next` meets its contract: each return is a way through its rule.
-use borrow.Author.Rules.{rules}
 use Rattle.refusal.specs.Laws.{refuse, grant}
 use Rattle.id_batches.proofs.Ways.{walk_short, walk_old, walk_new, walk_done}
 use Rattle.id_batches.proofs.many.AllocManyState.next.Goals as goal

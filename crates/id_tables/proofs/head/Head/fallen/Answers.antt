@@ -1,5 +1,5 @@
 -- `id_tables::Head::fallen` meets its contract: past the test 64 bits hold the difference, and it is read back whole.
-use Rattle.std.proofs.Common.{sym, arith, rules}
+use Rattle.std.proofs.Common.{sym, arith}
 use Rattle.id_tables.proofs.Signed.{new_small, fall_fits, fall_is}
 use Rattle.id_tables.proofs.Falling.{falls, stays}
 use Rattle.id_tables.proofs.head.Head.fallen.Goals as goal

@@ -1,5 +1,5 @@
 -- `id_tables::Head::is_flushed` meets its contract: a cursor below 0 reserves new numbers, and else its free count decides.
-use Rattle.std.proofs.Common.{sym, arith, rules, eq-eqb, ne_eqb}
+use Rattle.std.proofs.Common.{sym, arith, eq-eqb, ne_eqb}
 use mathlib.Core.Bool.{and-false, and-true}
 use Rattle.id_tables.specs.Head.{new_of, flushed}
 use Rattle.id_tables.proofs.Signed.{new_0, new_more}
