@@ -31,10 +31,10 @@ pub fn repository() -> PathBuf {
     Path::new(env!("CARGO_MANIFEST_DIR")).join("../..")
 }
 
-/// The last time that a source file of a proved crate was written.
+/// The last time that a source file of a proved crate was written. What rt keeps in `out` holds copies.
 fn newest(folder: &Path) -> Option<SystemTime> {
     let entries = fs::read_dir(folder).ok()?.flatten();
-    let times = entries.filter_map(|e| {
+    let times = entries.filter(|e| e.file_name() != "out").filter_map(|e| {
         let path = e.path();
         if path.is_dir() {
             return newest(&path);
