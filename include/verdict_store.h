@@ -1,6 +1,6 @@
 /* verdict_store.h: the proved entity store, for C and C++.
 
-   Link the archives libexports_*.a, which `rt staticlib` writes to target/staticlib, x86-64 Linux.
+   Link the archives libexports_*.a, which `./project archives` writes to target/staticlib, x86-64 Linux.
    They need nothing but the C library, keep no state, allocate nothing, and use no lock: all
    tables are the caller's, and are lent for one call.
 

@@ -2,12 +2,11 @@
 //! them.
 //!
 //! The variable VERDICT_STORE_ARCHIVE names a ready archive, or a folder of them
-//! (relative to the repository's root, or absolute). Without it `rt staticlib`
-//! proves each crate of crates.txt whose name starts with `exports` and writes
-//! its archive; rt proves nothing again that has not changed.
+//! (relative to the repository's root, or absolute). Without it tools/archives.sh
+//! has `rt lib` prove each static library `exports_.._c` of crates.txt and writes
+//! its archive, `libexports_...a`; rt proves nothing again that has not changed.
 //!
-//! The kit compiles for x86-64. On Arm, arm-archive.sh has the kit's own clang
-//! compile the same modules for the machine at hand.
+//! On Arm, arm-archive.sh has the same made for that processor.
 
 use std::path::{Path, PathBuf};
 use std::process::{exit, Command};
@@ -60,35 +59,39 @@ fn ready(named: &Path) -> Vec<PathBuf> {
     archives
 }
 
-/// The archives of the crates that export, proved and compiled for the target.
+/// The archives of the static libraries, proved and compiled for the target.
 fn made(here: &Path, root: &Path, out: &Path) -> Vec<PathBuf> {
-    println!("cargo::rerun-if-changed={}", root.join("crates").display());
     println!("cargo::rerun-if-changed={}", root.join("crates.txt").display());
+    // Beside these folders rt keeps its own work, which each build changes.
+    for folder in fs::read_dir(root.join("crates")).into_iter().flatten().flatten() {
+        for read in ["src", "specs", "proofs"].map(|part| folder.path().join(part)) {
+            if read.exists() {
+                println!("cargo::rerun-if-changed={}", read.display());
+            }
+        }
+    }
     let listed = fs::read_to_string(root.join("crates.txt"))
         .unwrap_or_else(|error| stop(&format!("crates.txt cannot be read: {error}")));
     let exports: Vec<&str> = listed
         .lines()
-        .filter_map(|line| Some(line.split_once(':')?.0.trim()))
+        .filter_map(|line| line.split_once(':')?.0.trim().strip_suffix(" staticlib"))
+        .filter_map(|name| name.trim().strip_suffix("_c"))
         .filter(|name| name.starts_with("exports"))
         .collect();
     if exports.is_empty() {
-        stop("crates.txt lists no crate whose name starts with `exports`.");
+        stop("crates.txt lists no static library `exports_.._c`.");
     }
-    let folder = match env::var("CARGO_CFG_TARGET_ARCH").unwrap().as_str() {
-        "x86_64" => {
-            for name in &exports {
-                run(Command::new("rt").args(["staticlib", name]).current_dir(root));
-            }
-            root.join("target/staticlib")
-        }
-        "aarch64" => {
-            let (script, folder) = (here.join("arm-archive.sh"), out.join("arm"));
-            println!("cargo::rerun-if-changed={}", script.display());
-            run(Command::new("sh").arg(script).arg(&folder).args(&exports).current_dir(root));
-            folder
-        }
+    let folder = out.join("made");
+    let mut script = Command::new("sh");
+    match env::var("CARGO_CFG_TARGET_ARCH").unwrap().as_str() {
+        "x86_64" => script.arg(root.join("tools/archives.sh")).arg("x86_64-unknown-linux-gnu"),
+        "aarch64" => script.arg(here.join("arm-archive.sh")),
         other => stop(&format!("the Rattle kit has no code for {other}: build for x86_64.")),
     };
+    for read in [root.join("tools/archives.sh"), here.join("arm-archive.sh")] {
+        println!("cargo::rerun-if-changed={}", read.display());
+    }
+    run(script.arg(&folder).args(&exports).current_dir(root));
     exports.iter().map(|name| folder.join(format!("lib{name}.a"))).collect()
 }
 

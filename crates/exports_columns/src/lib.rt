@@ -75,8 +75,7 @@ fn looked(out: &mut [u64; 4], answer: Looked) -> u32
 }
 
 // hecs's `allocate`: the number goes into the first unused row. Out: the row.
-#[unsafe(no_mangle)]
-pub extern "C" fn verdict_columns_allocate(
+pub fn verdict_columns_allocate(
     rows: &[u32],
     widths: &[u32],
     types: &[u32],
@@ -105,8 +104,7 @@ pub extern "C" fn verdict_columns_allocate(
 }
 
 // hecs's `remove`: the last row takes the place of the one that is removed. Out: 0, or 1 and the number that moved.
-#[unsafe(no_mangle)]
-pub extern "C" fn verdict_columns_remove(
+pub fn verdict_columns_remove(
     rows: &[u32],
     widths: &[u32],
     types: &[u32],
@@ -135,8 +133,7 @@ pub extern "C" fn verdict_columns_remove(
 }
 
 // hecs's `move_to`: the row's bytes in column order into `taken`, then as `remove`. Out: 0, or 1 and the number that moved.
-#[unsafe(no_mangle)]
-pub extern "C" fn verdict_columns_move_out(
+pub fn verdict_columns_move_out(
     rows: &[u32],
     widths: &[u32],
     types: &[u32],
@@ -167,8 +164,7 @@ pub extern "C" fn verdict_columns_move_out(
 }
 
 // hecs's `put_dynamic`: component bytes stored in a row.
-#[unsafe(no_mangle)]
-pub extern "C" fn verdict_columns_put(
+pub fn verdict_columns_put(
     rows: &[u32],
     widths: &[u32],
     types: &[u32],
@@ -200,8 +196,7 @@ pub extern "C" fn verdict_columns_put(
 }
 
 // hecs's `get_dynamic`. Out: where the component's bytes are, start and length.
-#[unsafe(no_mangle)]
-pub extern "C" fn verdict_columns_get(
+pub fn verdict_columns_get(
     rows: &[u32],
     widths: &[u32],
     types: &[u32],
@@ -232,8 +227,7 @@ pub extern "C" fn verdict_columns_get(
 }
 
 // hecs's `ids`. Out: where the archetype's row numbers are, start and count.
-#[unsafe(no_mangle)]
-pub extern "C" fn verdict_columns_ids(
+pub fn verdict_columns_ids(
     rows: &[u32],
     widths: &[u32],
     types: &[u32],
@@ -260,8 +254,7 @@ pub extern "C" fn verdict_columns_ids(
 }
 
 // Type lookup. Out: the column within the archetype.
-#[unsafe(no_mangle)]
-pub extern "C" fn verdict_columns_lookup(
+pub fn verdict_columns_lookup(
     rows: &[u32],
     widths: &[u32],
     types: &[u32],

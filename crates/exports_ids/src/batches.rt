@@ -31,8 +31,7 @@ fn alloced_many(words: &mut [u64; 4], out: &mut [u32; 4], answer: AllocedMany) -
 }
 
 // hecs's `reserve_entities`: n handles into the front of `handles`.
-#[unsafe(no_mangle)]
-pub extern "C" fn verdict_ids_reserve_entities(
+pub fn verdict_ids_reserve_entities(
     head: &mut [u64; 4],
     generations: &[u32],
     archetypes: &[u32],
@@ -56,8 +55,7 @@ pub extern "C" fn verdict_ids_reserve_entities(
 }
 
 // hecs's `alloc_many` and its finish. Out: the state that walks the numbers.
-#[unsafe(no_mangle)]
-pub extern "C" fn verdict_ids_alloc_many(
+pub fn verdict_ids_alloc_many(
     head: &mut [u64; 4],
     generations: &mut [u32],
     archetypes: &mut [u32],
@@ -84,8 +82,7 @@ pub extern "C" fn verdict_ids_alloc_many(
 }
 
 // hecs's `flush`: the reserved numbers get successive rows of an archetype.
-#[unsafe(no_mangle)]
-pub extern "C" fn verdict_ids_flush(
+pub fn verdict_ids_flush(
     head: &mut [u64; 4],
     generations: &mut [u32],
     archetypes: &mut [u32],
@@ -109,8 +106,7 @@ pub extern "C" fn verdict_ids_flush(
 }
 
 // hecs's `freelist`: the free handles into the front of `handles`. Out: how many.
-#[unsafe(no_mangle)]
-pub extern "C" fn verdict_ids_freelist(
+pub fn verdict_ids_freelist(
     head: &[u64; 4],
     generations: &[u32],
     archetypes: &[u32],

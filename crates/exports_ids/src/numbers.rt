@@ -13,8 +13,7 @@ use crossing::{chosen, contained, counted, done, found, freed, given, head_of, r
 use handle::{Number, Place, Row};
 
 // hecs's `reserve_entity`. Out: the handle.
-#[unsafe(no_mangle)]
-pub extern "C" fn verdict_ids_reserve_entity(
+pub fn verdict_ids_reserve_entity(
     head: &mut [u64; 4],
     generations: &[u32],
     archetypes: &[u32],
@@ -29,8 +28,7 @@ pub extern "C" fn verdict_ids_reserve_entity(
 }
 
 // hecs's `alloc`, with the place that the number gets. Out: the handle.
-#[unsafe(no_mangle)]
-pub extern "C" fn verdict_ids_alloc(
+pub fn verdict_ids_alloc(
     head: &mut [u64; 4],
     generations: &mut [u32],
     archetypes: &mut [u32],
@@ -58,8 +56,7 @@ pub extern "C" fn verdict_ids_alloc(
 }
 
 // hecs's `alloc_at`, with the place that the number gets. Out: 0, or 1 and the place that a live number had.
-#[unsafe(no_mangle)]
-pub extern "C" fn verdict_ids_alloc_at(
+pub fn verdict_ids_alloc_at(
     head: &mut [u64; 4],
     generations: &mut [u32],
     archetypes: &mut [u32],
@@ -89,8 +86,7 @@ pub extern "C" fn verdict_ids_alloc_at(
 }
 
 // hecs's `free`. Out: the place that the number had.
-#[unsafe(no_mangle)]
-pub extern "C" fn verdict_ids_free(
+pub fn verdict_ids_free(
     head: &mut [u64; 4],
     generations: &mut [u32],
     archetypes: &mut [u32],
@@ -113,8 +109,7 @@ pub extern "C" fn verdict_ids_free(
 }
 
 // hecs's `contains`. Out: 1 for yes, 0 for no.
-#[unsafe(no_mangle)]
-pub extern "C" fn verdict_ids_contains(
+pub fn verdict_ids_contains(
     head: &[u64; 4],
     generations: &[u32],
     archetypes: &[u32],
@@ -137,8 +132,7 @@ pub extern "C" fn verdict_ids_contains(
 }
 
 // hecs's `get`. Out: the place.
-#[unsafe(no_mangle)]
-pub extern "C" fn verdict_ids_get(
+pub fn verdict_ids_get(
     head: &[u64; 4],
     generations: &[u32],
     archetypes: &[u32],
@@ -161,8 +155,7 @@ pub extern "C" fn verdict_ids_get(
 }
 
 // hecs's `get_mut`: sets the place of a live number.
-#[unsafe(no_mangle)]
-pub extern "C" fn verdict_ids_set_place(
+pub fn verdict_ids_set_place(
     head: &[u64; 4],
     generations: &[u32],
     archetypes: &mut [u32],
@@ -191,8 +184,7 @@ pub extern "C" fn verdict_ids_set_place(
 }
 
 // hecs's `resolve_unknown_gen`. Out: the handle.
-#[unsafe(no_mangle)]
-pub extern "C" fn verdict_ids_resolve_unknown_gen(
+pub fn verdict_ids_resolve_unknown_gen(
     head: &[u64; 4],
     generations: &[u32],
     archetypes: &[u32],
@@ -215,8 +207,7 @@ pub extern "C" fn verdict_ids_resolve_unknown_gen(
 }
 
 // hecs's `len`. Out: the live count.
-#[unsafe(no_mangle)]
-pub extern "C" fn verdict_ids_len(
+pub fn verdict_ids_len(
     head: &[u64; 4],
     generations: &[u32],
     archetypes: &[u32],
@@ -231,8 +222,7 @@ pub extern "C" fn verdict_ids_len(
 }
 
 // hecs's `clear`.
-#[unsafe(no_mangle)]
-pub extern "C" fn verdict_ids_clear(
+pub fn verdict_ids_clear(
     head: &mut [u64; 4],
     generations: &[u32],
     archetypes: &[u32],

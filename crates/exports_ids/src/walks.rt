@@ -17,8 +17,7 @@ use id_readers::{
 };
 
 // A reservation of n as a span. Out: from and to in the pending list, then the new numbers from and to.
-#[unsafe(no_mangle)]
-pub extern "C" fn verdict_ids_reserve_span(
+pub fn verdict_ids_reserve_span(
     head: &mut [u64; 4],
     generations: &[u32],
     archetypes: &[u32],
@@ -57,8 +56,7 @@ fn handed(out: &mut [u64; 4], answer: NextEntity) -> u32
 }
 
 // hecs's `ReserveEntitiesIterator::next`, of the reader of a part. Out: 1 and the handle, or 0 after the last.
-#[unsafe(no_mangle)]
-pub extern "C" fn verdict_ids_reserve_next(
+pub fn verdict_ids_reserve_next(
     recycled: &[u32],
     position: &mut usize,
     number: &mut u32,
@@ -76,8 +74,7 @@ pub extern "C" fn verdict_ids_reserve_next(
 }
 
 // hecs's `ReserveEntitiesIterator::len`. Out: how many handles are left.
-#[unsafe(no_mangle)]
-pub extern "C" fn verdict_ids_reserve_len(
+pub fn verdict_ids_reserve_len(
     recycled: &[u32],
     position: usize,
     number: u32,
@@ -125,12 +122,7 @@ fn numbered(out: &mut [u64; 4], answer: NextNumber) -> u32
 }
 
 // hecs's `AllocManyState::next`, over the numbers of an `alloc_many`. Out: 1 and the number, or 0 after the last.
-#[unsafe(no_mangle)]
-pub extern "C" fn verdict_ids_alloc_many_next(
-    state: &mut [u32; 4],
-    pending: &[u32],
-    out: &mut [u64; 4],
-) -> u32
+pub fn verdict_ids_alloc_many_next(state: &mut [u32; 4], pending: &[u32], out: &mut [u64; 4]) -> u32
     ensures { Crossed maybe_four (walking (state_in state.old) pending.now) (state_in state.old) result out.new (state_in state.new) }
 {
     let step = alloc_many_step(state_of(state), pending);
@@ -140,8 +132,7 @@ pub extern "C" fn verdict_ids_alloc_many_next(
 }
 
 // hecs's `AllocManyState::len`. Out: how many numbers are left.
-#[unsafe(no_mangle)]
-pub extern "C" fn verdict_ids_alloc_many_len(state: &[u32; 4], out: &mut [u64; 4]) -> u32
+pub fn verdict_ids_alloc_many_len(state: &[u32; 4], out: &mut [u64; 4]) -> u32
     ensures { Told number_four (granted (numbersLeft (state_in state.now))) result out.new }
 {
     let from = state_of(state);

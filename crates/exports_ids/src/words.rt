@@ -62,8 +62,7 @@ fn bits(out: &mut [u64; 4], answer: Bits) -> u32
 }
 
 // A handle's bits taken apart. Out: the number and the generation.
-#[unsafe(no_mangle)]
-pub extern "C" fn verdict_handle_from_bits(raw: u64, out: &mut [u64; 4]) -> u32
+pub fn verdict_handle_from_bits(raw: u64, out: &mut [u64; 4]) -> u32
     ensures { Told halves_four (from_bits raw) result out.new }
 {
     let answer = Handle::from_bits(raw);
@@ -71,8 +70,7 @@ pub extern "C" fn verdict_handle_from_bits(raw: u64, out: &mut [u64; 4]) -> u32
 }
 
 // A handle of a number and a generation. Out: its bits.
-#[unsafe(no_mangle)]
-pub extern "C" fn verdict_handle_new(number: u32, generation: u32, out: &mut [u64; 4]) -> u32
+pub fn verdict_handle_new(number: u32, generation: u32, out: &mut [u64; 4]) -> u32
     ensures { Told number_four (new_handle number generation) result out.new }
 {
     let answer = Handle::new(Number(number), generation);
@@ -80,8 +78,7 @@ pub extern "C" fn verdict_handle_new(number: u32, generation: u32, out: &mut [u6
 }
 
 // Shared borrow of a word in place.
-#[unsafe(no_mangle)]
-pub extern "C" fn verdict_word_shared(word: &mut u64) -> u32
+pub fn verdict_word_shared(word: &mut u64) -> u32
     ensures { Passed (in_place (shared_word word.old)) word.old result word.new }
 {
     let answer = borrow_word::shared(*word);
@@ -89,8 +86,7 @@ pub extern "C" fn verdict_word_shared(word: &mut u64) -> u32
 }
 
 // Shared borrow of the word at a position of a table. Out: the word that is left.
-#[unsafe(no_mangle)]
-pub extern "C" fn verdict_word_shared_at(words: &mut [u64], at: usize, out: &mut [u64; 4]) -> u32
+pub fn verdict_word_shared_at(words: &mut [u64], at: usize, out: &mut [u64; 4]) -> u32
     ensures { Crossed number_four (at_word shared_word words.old at) words.old result out.new words.new }
 {
     let answer = borrow_word::shared_at(words, at);
@@ -98,8 +94,7 @@ pub extern "C" fn verdict_word_shared_at(words: &mut [u64], at: usize, out: &mut
 }
 
 // Unique borrow of a word in place.
-#[unsafe(no_mangle)]
-pub extern "C" fn verdict_word_unique(word: &mut u64) -> u32
+pub fn verdict_word_unique(word: &mut u64) -> u32
     ensures { Passed (in_place (unique_word word.old)) word.old result word.new }
 {
     let answer = borrow_word::unique(*word);
@@ -107,8 +102,7 @@ pub extern "C" fn verdict_word_unique(word: &mut u64) -> u32
 }
 
 // Unique borrow of the word at a position of a table. Out: the word that is left.
-#[unsafe(no_mangle)]
-pub extern "C" fn verdict_word_unique_at(words: &mut [u64], at: usize, out: &mut [u64; 4]) -> u32
+pub fn verdict_word_unique_at(words: &mut [u64], at: usize, out: &mut [u64; 4]) -> u32
     ensures { Crossed number_four (at_word unique_word words.old at) words.old result out.new words.new }
 {
     let answer = borrow_word::unique_at(words, at);
@@ -116,8 +110,7 @@ pub extern "C" fn verdict_word_unique_at(words: &mut [u64], at: usize, out: &mut
 }
 
 // Shared release of a word in place.
-#[unsafe(no_mangle)]
-pub extern "C" fn verdict_word_release(word: &mut u64) -> u32
+pub fn verdict_word_release(word: &mut u64) -> u32
     ensures { Passed (in_place (released_word word.old)) word.old result word.new }
 {
     let answer = borrow_word::release(*word);
@@ -125,8 +118,7 @@ pub extern "C" fn verdict_word_release(word: &mut u64) -> u32
 }
 
 // Shared release of the word at a position of a table. Out: the word that is left.
-#[unsafe(no_mangle)]
-pub extern "C" fn verdict_word_release_at(words: &mut [u64], at: usize, out: &mut [u64; 4]) -> u32
+pub fn verdict_word_release_at(words: &mut [u64], at: usize, out: &mut [u64; 4]) -> u32
     ensures { Crossed number_four (at_word released_word words.old at) words.old result out.new words.new }
 {
     let answer = borrow_word::release_at(words, at);
@@ -134,8 +126,7 @@ pub extern "C" fn verdict_word_release_at(words: &mut [u64], at: usize, out: &mu
 }
 
 // Unique release of a word in place.
-#[unsafe(no_mangle)]
-pub extern "C" fn verdict_word_unique_release(word: &mut u64) -> u32
+pub fn verdict_word_unique_release(word: &mut u64) -> u32
     ensures { Passed (in_place (unique_released_word word.old)) word.old result word.new }
 {
     let answer = borrow_word::unique_release(*word);
@@ -143,12 +134,7 @@ pub extern "C" fn verdict_word_unique_release(word: &mut u64) -> u32
 }
 
 // Unique release of the word at a position of a table. Out: the word that is left.
-#[unsafe(no_mangle)]
-pub extern "C" fn verdict_word_unique_release_at(
-    words: &mut [u64],
-    at: usize,
-    out: &mut [u64; 4],
-) -> u32
+pub fn verdict_word_unique_release_at(words: &mut [u64], at: usize, out: &mut [u64; 4]) -> u32
     ensures { Crossed number_four (at_word unique_released_word words.old at) words.old result out.new words.new }
 {
     let answer = borrow_word::unique_release_at(words, at);

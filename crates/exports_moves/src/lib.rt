@@ -15,8 +15,7 @@ ghost use Rattle.crossing.specs.Words.{head_of};
 use crossing::{done, head_of, tested};
 
 // An entity of a chosen handle in an archetype, with the bytes of its components in column order. A live number's old row leaves first.
-#[unsafe(no_mangle)]
-pub extern "C" fn verdict_store_spawn_at(
+pub fn verdict_store_spawn_at(
     head: &mut [u64; 4],
     rows: &[u32],
     widths: &[u32],
@@ -58,8 +57,7 @@ pub extern "C" fn verdict_store_spawn_at(
 }
 
 // A component of an entity: where its archetype lacks it, the row moves to the one that has it.
-#[unsafe(no_mangle)]
-pub extern "C" fn verdict_store_insert(
+pub fn verdict_store_insert(
     head: &[u64; 4],
     rows: &[u32],
     widths: &[u32],
@@ -101,8 +99,7 @@ pub extern "C" fn verdict_store_insert(
 }
 
 // A component that an entity holds no longer: the row moves to the archetype without it.
-#[unsafe(no_mangle)]
-pub extern "C" fn verdict_store_remove(
+pub fn verdict_store_remove(
     head: &[u64; 4],
     rows: &[u32],
     widths: &[u32],
@@ -142,8 +139,7 @@ pub extern "C" fn verdict_store_remove(
 }
 
 // Every reserved entity gets a row of archetype 0.
-#[unsafe(no_mangle)]
-pub extern "C" fn verdict_store_flush(
+pub fn verdict_store_flush(
     head: &mut [u64; 4],
     rows: &[u32],
     widths: &[u32],

@@ -30,8 +30,7 @@ fn part(out: &mut [u64; 4], answer: Part) -> u32
 }
 
 // Where an entity is. Out: the place.
-#[unsafe(no_mangle)]
-pub extern "C" fn verdict_store_get(
+pub fn verdict_store_get(
     head: &[u64; 4],
     rows: &[u32],
     widths: &[u32],
@@ -70,8 +69,7 @@ pub extern "C" fn verdict_store_get(
 }
 
 // Whether an entity is live or reserved. Out: 1 for yes, 0 for no.
-#[unsafe(no_mangle)]
-pub extern "C" fn verdict_store_contains(
+pub fn verdict_store_contains(
     head: &[u64; 4],
     rows: &[u32],
     widths: &[u32],
@@ -110,8 +108,7 @@ pub extern "C" fn verdict_store_contains(
 }
 
 // The handle of a number. Out: the handle.
-#[unsafe(no_mangle)]
-pub extern "C" fn verdict_store_resolve_unknown_gen(
+pub fn verdict_store_resolve_unknown_gen(
     head: &[u64; 4],
     rows: &[u32],
     widths: &[u32],
@@ -150,8 +147,7 @@ pub extern "C" fn verdict_store_resolve_unknown_gen(
 }
 
 // Out: the live count.
-#[unsafe(no_mangle)]
-pub extern "C" fn verdict_store_len(
+pub fn verdict_store_len(
     head: &[u64; 4],
     rows: &[u32],
     widths: &[u32],
@@ -188,8 +184,7 @@ pub extern "C" fn verdict_store_len(
 }
 
 // Out: where a component's bytes are, start and length.
-#[unsafe(no_mangle)]
-pub extern "C" fn verdict_store_read(
+pub fn verdict_store_read(
     head: &[u64; 4],
     rows: &[u32],
     widths: &[u32],
@@ -230,8 +225,7 @@ pub extern "C" fn verdict_store_read(
 }
 
 // Component bytes stored over an entity's.
-#[unsafe(no_mangle)]
-pub extern "C" fn verdict_store_write(
+pub fn verdict_store_write(
     head: &[u64; 4],
     rows: &[u32],
     widths: &[u32],
@@ -273,8 +267,7 @@ pub extern "C" fn verdict_store_write(
 }
 
 // Shared borrow of a column.
-#[unsafe(no_mangle)]
-pub extern "C" fn verdict_store_borrow(
+pub fn verdict_store_borrow(
     head: &[u64; 4],
     rows: &[u32],
     widths: &[u32],
@@ -314,8 +307,7 @@ pub extern "C" fn verdict_store_borrow(
 }
 
 // Unique borrow of a column.
-#[unsafe(no_mangle)]
-pub extern "C" fn verdict_store_borrow_mut(
+pub fn verdict_store_borrow_mut(
     head: &[u64; 4],
     rows: &[u32],
     widths: &[u32],
@@ -355,8 +347,7 @@ pub extern "C" fn verdict_store_borrow_mut(
 }
 
 // Shared release of a column.
-#[unsafe(no_mangle)]
-pub extern "C" fn verdict_store_release(
+pub fn verdict_store_release(
     head: &[u64; 4],
     rows: &[u32],
     widths: &[u32],
@@ -396,8 +387,7 @@ pub extern "C" fn verdict_store_release(
 }
 
 // Unique release of a column.
-#[unsafe(no_mangle)]
-pub extern "C" fn verdict_store_release_mut(
+pub fn verdict_store_release_mut(
     head: &[u64; 4],
     rows: &[u32],
     widths: &[u32],

@@ -13,8 +13,7 @@ ghost use Rattle.crossing.specs.Words.{head_of};
 use crossing::{counted, done, given, head_of};
 
 // A handle before its row. Out: the handle.
-#[unsafe(no_mangle)]
-pub extern "C" fn verdict_store_reserve_entity(
+pub fn verdict_store_reserve_entity(
     head: &mut [u64; 4],
     rows: &[u32],
     widths: &[u32],
@@ -51,8 +50,7 @@ pub extern "C" fn verdict_store_reserve_entity(
 }
 
 // n handles before their rows, into `handles`, whose rest stays.
-#[unsafe(no_mangle)]
-pub extern "C" fn verdict_store_reserve_entities(
+pub fn verdict_store_reserve_entities(
     head: &mut [u64; 4],
     rows: &[u32],
     widths: &[u32],
@@ -92,8 +90,7 @@ pub extern "C" fn verdict_store_reserve_entities(
 }
 
 // The handles that are free, into `handles`, whose rest stays. Out: how many.
-#[unsafe(no_mangle)]
-pub extern "C" fn verdict_store_freelist(
+pub fn verdict_store_freelist(
     head: &[u64; 4],
     rows: &[u32],
     widths: &[u32],
@@ -132,8 +129,7 @@ pub extern "C" fn verdict_store_freelist(
 }
 
 // No entity and no row.
-#[unsafe(no_mangle)]
-pub extern "C" fn verdict_store_clear(
+pub fn verdict_store_clear(
     head: &mut [u64; 4],
     rows: &[u32],
     widths: &[u32],

@@ -13,8 +13,7 @@ ghost use Rattle.crossing.specs.Words.{head_of};
 use crossing::{done, given, head_of};
 
 // An entity in an archetype, with the bytes of its components in column order. Out: the handle.
-#[unsafe(no_mangle)]
-pub extern "C" fn verdict_store_spawn(
+pub fn verdict_store_spawn(
     head: &mut [u64; 4],
     rows: &[u32],
     widths: &[u32],
@@ -55,8 +54,7 @@ pub extern "C" fn verdict_store_spawn(
 }
 
 // An entity and its row leave.
-#[unsafe(no_mangle)]
-pub extern "C" fn verdict_store_despawn(
+pub fn verdict_store_despawn(
     head: &mut [u64; 4],
     rows: &[u32],
     widths: &[u32],

@@ -1,9 +1,8 @@
 //! The process that makes the calls, made from the proved archives.
 //!
-//! `rt staticlib` writes an archive of each crate in [`CRATES`], for x86-64
-//! Linux. The kit's own compiler and linker put them together with serve.c,
-//! and on another processor the kit's emulator runs the result, as `rt` runs
-//! programs. The variable VERDICT_ARCHIVES names a folder of ready archives; a
+//! tools/archives.sh has `rt lib` make an archive for each crate in [`CRATES`],
+//! for x86-64 Linux. The kit's own compiler and linker put them together with
+//! serve.c. The variable VERDICT_ARCHIVES names a folder of ready archives; a
 //! relative one counts from the repository's root.
 
 use crate::ours::CALLS;
@@ -24,15 +23,18 @@ pub const CRATES: &[&str] = &[
     "exports_reserve",
 ];
 
+/// What the kit's compiler and linker are told to make.
+const TARGET: &str = "x86_64-unknown-linux-gnu";
+
 /// The repository's root.
 pub fn repository() -> PathBuf {
     Path::new(env!("CARGO_MANIFEST_DIR")).join("../..")
 }
 
-/// The last time that a source file of a proved crate was written.
+/// The last time that a source file of a proved crate was written. What rt keeps in `out` holds copies.
 fn newest(folder: &Path) -> Option<SystemTime> {
     let entries = fs::read_dir(folder).ok()?.flatten();
-    let times = entries.filter_map(|e| {
+    let times = entries.filter(|e| e.file_name() != "out").filter_map(|e| {
         let path = e.path();
         if path.is_dir() {
             return newest(&path);
@@ -74,8 +76,9 @@ fn archives() -> Result<PathBuf, String> {
     for name in CRATES {
         let made = fs::metadata(folder.join(format!("lib{name}.a"))).and_then(|m| m.modified());
         if made.ok() < sources {
-            eprintln!("compare: rt staticlib {name}");
-            run(Command::new("rt").args(["staticlib", name]).current_dir(repository()))?;
+            eprintln!("compare: rt lib, of {name}_c");
+            let script = repository().join("tools/archives.sh");
+            run(Command::new("sh").arg(script).arg(TARGET).arg(&folder).arg(name))?;
         }
     }
     Ok(folder)
@@ -84,8 +87,7 @@ fn archives() -> Result<PathBuf, String> {
 /// The command that starts the process.
 pub fn server() -> Result<Vec<String>, String> {
     let told = run(Command::new("rt").arg("doc"))?;
-    let kit = Path::new(told.trim()).parent().and_then(Path::parent).ok_or("rt doc: no path")?;
-    let kit = kit.join("on").join(std::env::consts::ARCH);
+    let kit = Path::new(told.trim()).parent().ok_or("rt doc: no path")?;
     let tools = kit.join("toolchain");
     let archives = archives()?;
 
@@ -94,16 +96,15 @@ pub fn server() -> Result<Vec<String>, String> {
     let names: String = CALLS.iter().map(|c| format!("CALL({c})\n")).collect();
     fs::write(folder.join("calls.h"), names).map_err(|why| why.to_string())?;
     let (object, program) = (folder.join("serve.o"), folder.join("serve"));
-    let target = "x86_64-unknown-linux-gnu";
     let source = Path::new(env!("CARGO_MANIFEST_DIR")).join("serve.c");
     run(Command::new(tools.join("bin/clang"))
-        .arg(format!("--target={target}"))
+        .arg(format!("--target={TARGET}"))
         .args(["-O2", "-fPIC", "-w", "-c", "-I"])
         .args([&folder, &source])
         .arg("-o")
         .arg(&object))?;
     run(Command::new(kit.join("bin/rattle-link"))
-        .args(["--target", target, "--toolchain"])
+        .args(["--target", TARGET, "--toolchain"])
         .arg(&tools)
         .arg("-o")
         .args([&program, &object])
@@ -111,12 +112,7 @@ pub fn server() -> Result<Vec<String>, String> {
 
     let library = tools.join("lib");
     let loader = library.join("ld-linux-x86-64.so.2");
-    let emulator = tools.join("bin/qemu-x86_64");
-    let mut command = Vec::new();
-    if emulator.exists() {
-        command.push(emulator);
-    }
-    command.extend([loader, "--library-path".into(), library, program]);
+    let command = [loader, "--library-path".into(), library, program];
     Ok(command.into_iter().map(|part| part.to_string_lossy().into_owned()).collect())
 }
 

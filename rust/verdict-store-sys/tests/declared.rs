@@ -26,19 +26,38 @@ fn calls(text: &str, words: &str) -> Calls {
     found
 }
 
-/// What the crates that export declare.
-fn exported() -> Calls {
-    let mut all = Calls::new();
+/// The texts of the crates `exports_..`: of the static libraries, or of those that they call.
+fn texts(are_static: bool) -> Vec<String> {
+    let mut all = Vec::new();
     for folder in fs::read_dir(root().join("crates")).unwrap() {
         let folder = folder.unwrap();
-        if folder.file_name().to_string_lossy().starts_with("exports") {
+        let name = folder.file_name().into_string().unwrap();
+        if name.starts_with("exports") && name.ends_with("_c") == are_static {
             for file in fs::read_dir(folder.path().join("src")).unwrap() {
-                let text = fs::read_to_string(file.unwrap().path()).unwrap();
-                all.extend(calls(&text, "pub extern \"C\" fn "));
+                all.push(fs::read_to_string(file.unwrap().path()).unwrap());
             }
         }
     }
     all
+}
+
+/// What the crates that export declare.
+fn exported() -> Calls {
+    texts(true).iter().flat_map(|text| calls(text, "pub extern \"C\" fn ")).collect()
+}
+
+/// The calls of these texts as they are written up to their bodies, however they are laid out.
+fn contracts(texts: &[String], words: &str) -> BTreeMap<String, String> {
+    let parts = texts.iter().flat_map(|text| text.split(words).skip(1));
+    let heads = parts.filter_map(|part| part.split_once("\n{\n")).map(|(head, _)| head);
+    let named = heads.filter(|head| head.starts_with("verdict_"));
+    named
+        .map(|head| {
+            let line = head.split_whitespace().collect::<Vec<_>>().join(" ");
+            let line = line.replace("( ", "(").replace(", )", ")");
+            (head.split('(').next().unwrap().to_string(), line)
+        })
+        .collect()
 }
 
 /// What a parameter is in C.
@@ -75,6 +94,17 @@ fn here() -> Calls {
 #[test]
 fn the_declarations_are_the_exports() {
     assert_eq!(here(), exported());
+}
+
+#[test]
+fn each_export_promises_what_the_call_behind_it_does() {
+    let exports = contracts(&texts(true), "pub extern \"C\" fn ");
+    let behind = contracts(&texts(false), "pub fn ");
+    assert!(exports.keys().eq(exported().keys()));
+    assert!(exports.keys().eq(behind.keys()));
+    for (name, contract) in exports {
+        assert_eq!(contract, behind[&name]);
+    }
 }
 
 #[test]
