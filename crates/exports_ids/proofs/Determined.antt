@@ -16,7 +16,7 @@ use Rattle.ids.specs.AllocAt.{allocating_at}
 use Rattle.ids.specs.Free.{freeing}
 use Rattle.id_batches.specs.declared.many.AllocManyState.{AllocManyState}
 use Rattle.id_batches.specs.Reserve as batch
-use Rattle.id_batches.specs.AllocMany.{allocating_many, walking, left_in as numbersLeft}
+use Rattle.id_batches.specs.AllocMany.{allocating_many, walking, left_in as numbers_left}
 use Rattle.id_batches.specs.Flush.{flushing}
 use Rattle.id_batches.specs.Freelist.{listing}
 use Rattle.id_readers.specs.Reader.{reader_at, stepping, left_in}
@@ -120,8 +120,8 @@ pub verdict_ids_alloc_many_next : (w : AllocManyState) (pending : List ℕ) (r r
     → Crossed maybe_four (walking w pending) w r' o' (state_in (four a' b' c' d')) → (r ≡ r') × (o ≡ o') × (four a b c d ≡ four a' b' c' d')
 verdict_ids_alloc_many_next w pending r r' o o' a b c d a' b' c' d' x y = let q = crossed_one x y in (q.0, q.1, states_one a b c d a' b' c' d' q.2)
 
-pub verdict_ids_alloc_many_len : (w : AllocManyState) → Only number_four (granted (numbersLeft w))
-verdict_ids_alloc_many_len w = only number_four (granted (numbersLeft w))
+pub verdict_ids_alloc_many_len : (w : AllocManyState) → Only number_four (granted (numbers_left w))
+verdict_ids_alloc_many_len w = only number_four (granted (numbers_left w))
 
 pub verdict_ids_reserve_span : (s : Ids) (n : ℕ) → CrossedIds span_four (reserving_span s n) s
 verdict_ids_reserve_span s n = crossed_ids_one span_four (reserving_span s n) s

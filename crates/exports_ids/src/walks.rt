@@ -2,7 +2,7 @@
 ghost use Rattle.std.specs.Prelude.{◌≡◌};
 ghost use Rattle.refusal.specs.Table.{granted};
 ghost use Rattle.id_tables.specs.Ids.{ids_of};
-ghost use Rattle.id_batches.specs.AllocMany.{walking, left_in as numbersLeft};
+ghost use Rattle.id_batches.specs.AllocMany.{walking, left_in as numbers_left};
 ghost use Rattle.id_readers.specs.Reader.{reader_at, stepping, next_of, left_in};
 ghost use Rattle.id_readers.specs.State.{numbered_of};
 ghost use Rattle.crossing.specs.Words.{head_of};
@@ -133,7 +133,7 @@ pub fn verdict_ids_alloc_many_next(state: &mut [u32; 4], pending: &[u32], out: &
 
 // hecs's `AllocManyState::len`. Out: how many numbers are left.
 pub fn verdict_ids_alloc_many_len(state: &[u32; 4], out: &mut [u64; 4]) -> u32
-    ensures { Told number_four (granted (numbersLeft (state_in state.now))) result out.new }
+    ensures { Told number_four (granted (numbers_left (state_in state.now))) result out.new }
 {
     let from = state_of(state);
     store(out, from.len() as u64, 0, 0);

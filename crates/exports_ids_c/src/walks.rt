@@ -1,7 +1,7 @@
 // The two exported walks: over the handles of a reservation, and over the numbers of an `alloc_many`.
 ghost use Rattle.refusal.specs.Table.{granted};
 ghost use Rattle.id_tables.specs.Ids.{ids_of};
-ghost use Rattle.id_batches.specs.AllocMany.{walking, left_in as numbersLeft};
+ghost use Rattle.id_batches.specs.AllocMany.{walking, left_in as numbers_left};
 ghost use Rattle.id_readers.specs.Reader.{reader_at, stepping, left_in};
 ghost use Rattle.crossing.specs.Words.{head_of};
 ghost use Rattle.crossing.specs.Answers.{Told, Crossed, number_four, maybe_four};
@@ -68,7 +68,7 @@ pub extern "C" fn verdict_ids_alloc_many_next(
 // hecs's `AllocManyState::len`. Out: how many numbers are left.
 #[unsafe(no_mangle)]
 pub extern "C" fn verdict_ids_alloc_many_len(state: &[u32; 4], out: &mut [u64; 4]) -> u32
-    ensures { Told number_four (granted (numbersLeft (state_in state.now))) result out.new }
+    ensures { Told number_four (granted (numbers_left (state_in state.now))) result out.new }
 {
     exports_ids::verdict_ids_alloc_many_len(state, out)
 }

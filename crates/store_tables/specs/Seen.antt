@@ -32,16 +32,16 @@ moved_seen first used archetypes indices numbers counts a r =
     || not (eqb (get_or indices (get_or numbers (first + (get_or counts a 0 - 1)) 0) 0) (get_or counts a 0 - 1))))
 
 -- the part of the tables that an entity's archetype has, and its place; 1 where that is not its own
-abbrev pub field_own : Place → Option Span → Answer (Span × Place)
-field_own place none = refused 1
-field_own place (some span) = granted (span, place)
+abbrev pub own_at : Place → Option Span → Answer (Span × Place)
+own_at place none = refused 1
+own_at place (some span) = granted (span, place)
 
 unfoldable pub entity_seen : Decl → Ids → List ℕ → List ℕ → ℕ → ℕ → Answer (Span × Place)
 entity_seen d i numbers counts generation n =
     3 when not (flushed i.head)
     ∷ 2 when not (live i generation n)
     ∷ []
-    or_else field_own (place_at i n) (own_seen d numbers counts (get_or i.archetypes n 0) (index_at i n) n)
+    or_else own_at (place_at i n) (own_seen d numbers counts (get_or i.archetypes n 0) (index_at i n) n)
 
 -- the document's number and values of each case
 abbrev pub entity_of : Entity → Answer (Span × Place)
