@@ -37,6 +37,8 @@
      bytes        for each archetype in turn, for each of its columns, the components row by row
      words        borrow words, one a column
    A fresh store has the declaration (rows, widths, types, sizes) as wanted, and zeros elsewhere.
+   The first of the declaration is of archetype 0, and there are at most 16 archetypes. A table
+   of another length is refused with 13; `verdict_lengths_of` below reckons the lengths.
 
    "12, 13, 1" below stands for the first tests of a layer: the sizes and the declaration (12),
    the lengths of all that is lent (13), the head and the row counts (1). The length of
@@ -86,6 +88,35 @@ typedef struct verdict_tables {
     size_t byte_count;
     uint64_t *words;
 } verdict_tables;
+
+/* How long the tables of a store are: as many entries, or bytes. */
+typedef struct verdict_lengths {
+    size_t ids;     /* generations, archetypes, indices and pending, each */
+    size_t numbers; /* one a row of all archetypes */
+    size_t counts;  /* one an archetype */
+    size_t bytes;   /* of each archetype, its rows times the sizes of its columns */
+    size_t words;   /* one a column */
+} verdict_lengths;
+
+/* The lengths that a declaration and a capacity ask for. It is plain C and no part of what is
+   proved; the calls test the lengths that they are given. A declaration that the calls refuse has
+   no lengths: what is said of one means nothing, and no entry past its counts is looked at. */
+static inline verdict_lengths verdict_lengths_of(
+    const uint32_t *rows, const uint32_t *widths, size_t archetype_count,
+    const uint32_t *sizes, size_t column_count, size_t capacity) {
+    verdict_lengths found = {0, 0, 0, 0, 0};
+    size_t archetype, column = 0;
+    uint32_t left;
+    found.ids = capacity;
+    found.counts = archetype_count;
+    found.words = column_count;
+    for (archetype = 0; archetype < archetype_count; archetype++) {
+        found.numbers += rows[archetype];
+        for (left = widths[archetype]; left > 0 && column < column_count; left--)
+            found.bytes += (size_t)rows[archetype] * sizes[column++];
+    }
+    return found;
+}
 
 #define VERDICT_IDS(t)                                                                     \
     (t)->head, (t)->generations, (t)->capacity, (t)->archetypes, (t)->capacity,            \

@@ -209,7 +209,39 @@ static void nothing(void) {
     expect("clear", verdict_store_clear(VERDICT_STORE(&none)), 0);
 }
 
+/* The lengths that the header reckons are those that the calls ask for, and no others. */
+static void lengths(void) {
+    static uint32_t more_numbers[3 * ROWS + 1];
+    static uint8_t more_bytes[ROWS * 9 + 1];
+    verdict_lengths needed = verdict_lengths_of(rows, widths, 3, sizes, 3, CAPACITY);
+    verdict_tables other = store;
+    uint64_t out[4];
+    expect("ids", needed.ids, CAPACITY);
+    expect("numbers", needed.numbers, 3 * ROWS);
+    expect("counts", needed.counts, 3);
+    expect("bytes", needed.bytes, ROWS * 4 + ROWS * 5);
+    expect("words", needed.words, 3);
+    other.numbers = more_numbers;
+    other.bytes = more_bytes;
+    other.row_count = needed.numbers;
+    other.byte_count = needed.bytes;
+    expect("as long", verdict_store_len(VERDICT_STORE(&other), out), 0);
+    other.row_count = needed.numbers + 1;
+    expect("a number more", verdict_store_len(VERDICT_STORE(&other), out), 13);
+    other.row_count = needed.numbers - 1;
+    expect("a number less", verdict_store_len(VERDICT_STORE(&other), out), 13);
+    other.row_count = needed.numbers;
+    other.byte_count = needed.bytes + 1;
+    expect("a byte more", verdict_store_len(VERDICT_STORE(&other), out), 13);
+    other.byte_count = needed.bytes - 1;
+    expect("a byte less", verdict_store_len(VERDICT_STORE(&other), out), 13);
+    /* Widths that name more columns than there are: nothing past them is read. */
+    needed = verdict_lengths_of(rows, widths, 3, sizes, 1, CAPACITY);
+    expect("one column", needed.bytes, ROWS * 4);
+}
+
 int main(void) {
+    lengths();
     entities();
     reserved();
     borrows();
