@@ -2,31 +2,24 @@
 -- Assumes nothing.
 use Prim.Native.Nat.{ℕ}
 use mathlib.Core.Bool.{Bool}
-use mathlib.Core.Path.{◌≡◌, ap, sym, ◌∙◌}
+use mathlib.Core.Path.{◌≡◌, sym, ◌∙◌}
 use mathlib.Core.List.{List}
-use Rattle.refusal.specs.Table.{Answer, Did}
+use Rattle.refusal.specs.Table.{Answer, Did, answer_of}
 use Rattle.refusal.specs.Laws.{sole_answer, sole}
-use Rattle.refusal.specs.Distinct.{number_inj}
-use Rattle.borrow_word.specs.declared.Borrowed.{Borrowed}
-use Rattle.borrow_word.specs.declared.Borrowed.TheVariants.{Granted, Refused}
-use Rattle.borrow_word.specs.Word.{answer_of, shared_word, unique_word, released_word, unique_released_word}
+use Rattle.refusal.specs.Distinct.{tells}
+use Rattle.refusal.specs.declared.Refusal.{Refusal}
+use Rattle.std.specs.Prelude.{Result}
+use Rattle.borrow_word.specs.Word.{shared_word, unique_word, released_word, unique_released_word}
 use Rattle.borrow_word.specs.Slice.{at_word, any_held}
-
--- an answer of the document is that of one result
-pub tells : (r s : Borrowed) → answer_of r ≡ answer_of s → r ≡ s
-tells (Granted a) (Granted b) e = ap Granted (cc)
-tells (Granted a) (Refused y) e = cc
-tells (Refused x) (Granted b) e = cc
-tells (Refused x) (Refused y) e = ap Refused (number_inj x y (cc))
 
 -- one result for a word
 abbrev OneWord : (ℕ → Answer ℕ) → Type 0
-OneWord rule = (word : ℕ) (r s : Borrowed) → answer_of r ≡ rule word → answer_of s ≡ rule word → r ≡ s
+OneWord rule = (word : ℕ) (r s : Result ℕ Refusal) → answer_of r ≡ rule word → answer_of s ≡ rule word → r ≡ s
 
 -- one result and one table for a table and a position
 abbrev OneAt : (ℕ → Answer ℕ) → Type 0
 OneAt rule =
-    (words : List ℕ) (at : ℕ) (r s : Borrowed) (left left' : List ℕ) → Did (at_word rule words at) words (answer_of r) left
+    (words : List ℕ) (at : ℕ) (r s : Result ℕ Refusal) (left left' : List ℕ) → Did (at_word rule words at) words (answer_of r) left
     → Did (at_word rule words at) words (answer_of s) left' → (r ≡ s) × (left ≡ left')
 
 word : (rule : ℕ → Answer ℕ) → OneWord rule

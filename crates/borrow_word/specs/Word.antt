@@ -1,14 +1,6 @@
 -- The four rules of a borrow word: the word that each leaves, or the refusal.
 use Rattle.std.specs.Prelude.{ℕ, ◌+◌, ◌-◌, ◌/◌, ◌%◌, ◌^◌, Bool, not, [], ◌∷◌, eqb}
-use Rattle.refusal.specs.Number.{number_of}
-use Rattle.refusal.specs.Table.{Answer, granted, refused, ◌when◌, ◌otherwise◌}
-use Rattle.borrow_word.specs.declared.Borrowed.{Borrowed}
-use Rattle.borrow_word.specs.declared.Borrowed.TheVariants.{Granted, Refused}
-
--- the document's number and value of each case: the word that is left, or the refusal's number
-abbrev pub answer_of : Borrowed → Answer ℕ
-answer_of (Granted w) = granted w
-answer_of (Refused r) = refused (number_of r)
+use Rattle.refusal.specs.Table.{Answer, ◌when◌, ◌otherwise◌}
 
 -- the top bit is set
 abbrev pub is_unique : ℕ → Bool

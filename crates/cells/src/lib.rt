@@ -6,8 +6,6 @@ ghost use Rattle.cells.specs.Cell.{cell, put, Copies, written, part_of, copied};
 ghost use Rattle.cells.specs.Cell.{fits, copies as copying};
 ghost use Rattle.cells.specs.Line.{cell_of, next_of, past_of, run_line, told, line_told, carried, transferred};
 
-const LAST: usize = 0xffff_ffff_ffff_ffff;
-
 // A row of columns of `rows` rows each that follow each other, the first of them at `start`.
 #[derive(Clone, Copy)]
 pub struct Line {
@@ -20,10 +18,7 @@ pub struct Line {
 fn within(end: usize, at: usize, size: usize) -> bool
     ensures { result ≡ fits end at size }
 {
-    if end < at {
-        return false;
-    }
-    size <= end - at
+    at <= end && size <= end - at
 }
 
 // Whether two runs of `size` bytes lie in a buffer of `len` and have no byte in common.
@@ -36,25 +31,13 @@ fn copies(len: usize, from: usize, to: usize, size: usize) -> bool
     within(from, to, size) && within(len, from, size)
 }
 
-fn write_within(bytes: &mut [u8], at: usize, value: &[u8])
-    requires { at + length value.now ≤ length bytes.old }
-    ensures { bytes.new ≡ put bytes.old at value.now }
-{
-    let mut i = 0;
-    while i < value.len() {
-        bytes[at + i] = value[i];
-        i += 1;
-    }
-}
-
+// Byte by byte: the slice's own `copy_within` was tried, and makes a row of cells of 8 bytes a third slower.
 fn copy_within(bytes: &mut [u8], from: usize, to: usize, size: usize)
     requires { Copies (length bytes.old) from to size }
     ensures { bytes.new ≡ put bytes.old to (cell bytes.old from size) }
 {
-    let mut i = 0;
-    while i < size {
+    for i in 0..size {
         bytes[to + i] = bytes[from + i];
-        i += 1;
     }
 }
 
@@ -62,7 +45,7 @@ pub fn write(bytes: &mut [u8], at: usize, value: &[u8])
     ensures { bytes.new ≡ written bytes.old at value.now }
 {
     if within(bytes.len(), at, value.len()) {
-        write_within(bytes, at, value);
+        bytes[at..at + value.len()].copy_from_slice(value);
     }
 }
 
@@ -88,11 +71,7 @@ pub fn copy(bytes: &mut [u8], from: usize, to: usize, size: usize)
 fn place(start: usize, count: u32, size: u32) -> usize
     ensures { result ≡ told (start + count * size) }
 {
-    let bytes = count as usize * size as usize;
-    if LAST - bytes < start {
-        return LAST;
-    }
-    start + bytes
+    start.saturating_add(count as usize * size as usize)
 }
 
 impl Line {
@@ -126,10 +105,8 @@ impl Line {
         ensures { result ≡ line_told (past_of self sizes.now) }
     {
         let mut line = self;
-        let mut j = 0;
-        while j < sizes.len() {
-            line = line.next(sizes[j]);
-            j += 1;
+        for &size in sizes {
+            line = line.next(size);
         }
         line
     }
@@ -148,25 +125,21 @@ pub fn carry(bytes: &mut [u8], from: Line, to: Line, sizes: &[u32])
 {
     let mut source = from;
     let mut target = to;
-    let mut j = 0;
-    while j < sizes.len() {
-        let size = sizes[j];
+    for &size in sizes {
         copy(bytes, source.cell(size), target.cell(size), size as usize);
         source = source.next(size);
         target = target.next(size);
-        j += 1;
     }
 }
 
-// The same from one buffer to another.
+// The same from one buffer to another. Two loops and not one over a step: a closure that writes what it captures tells its
+// caller nothing of what it left, and the loop is shorter than what would tell it.
 pub fn transfer(bytes: &[u8], from: Line, out: &mut [u8], to: Line, sizes: &[u32])
     ensures { out.new ≡ transferred bytes.now from out.old to sizes.now }
 {
     let mut source = from;
     let mut target = to;
-    let mut j = 0;
-    while j < sizes.len() {
-        let size = sizes[j];
+    for &size in sizes {
         write(
             out,
             target.cell(size),
@@ -174,6 +147,5 @@ pub fn transfer(bytes: &[u8], from: Line, out: &mut [u8], to: Line, sizes: &[u32
         );
         source = source.next(size);
         target = target.next(size);
-        j += 1;
     }
 }

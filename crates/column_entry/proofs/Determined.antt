@@ -1,25 +1,27 @@
 -- The contracts determine the result: no second result fits. One instance a function, under its name.
 -- Assumes nothing.
+use Prim.{Unit}
 use Prim.Native.Nat.{ℕ}
 use mathlib.Core.Bool.{Bool}
 use mathlib.Core.List.{List}
 use mathlib.Core.Path.{◌≡◌, sym, ◌∙◌}
 use lib.ListN.{get_or}
-use Rattle.refusal.specs.Table.{Rule, test_of, passing}
+use Rattle.std.specs.Prelude.{Result}
+use Rattle.refusal.specs.Table.{Rule, answer_of, passing}
 use Rattle.refusal.specs.Laws.{sole_answer}
-use Rattle.refusal.specs.declared.Tested.{Tested}
+use Rattle.refusal.specs.Distinct.{tells}
+use Rattle.refusal.specs.declared.Refusal.{Refusal}
 use Rattle.decl.specs.Decl.{Decl}
 use Rattle.decl.specs.declared.Span.{Span}
-use Rattle.decl.proofs.Determined.{tested_tells}
 use Rattle.row_step.specs.Tables.{Rows}
 use Rattle.column_entry.specs.Entry.{span_in, table_rules, count_rules, entry_rules, row_rules, wrong_size}
 
 -- one result of a run of tests
 abbrev OneTest : List Rule → Type 0
-OneTest rules = (r s : Tested) → test_of r ≡ passing rules → test_of s ≡ passing rules → r ≡ s
+OneTest rules = (r s : Result (Unit {0}) Refusal) → answer_of r ≡ passing rules → answer_of s ≡ passing rules → r ≡ s
 
 one : (rules : List Rule) → OneTest rules
-one rules r s d e = sole_answer test_of tested_tells r s d e
+one rules r s d e = sole_answer answer_of tells r s d e
 
 pub span : (d : Decl) (a : ℕ) (r s : Span) → r ≡ span_in d a → s ≡ span_in d a → r ≡ s
 span d a r s p q = p ∙ sym q

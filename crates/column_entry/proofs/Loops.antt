@@ -1,20 +1,20 @@
 -- The two loops: row counts against rows, and the columns of a type.
 -- Assumes nothing.
 use Prim.{tt}
-use Prim.Native.Nat.{ℕ, ◌+◌, ◌≤◌, ◌<◌, min}
-use mathlib.Core.Bool.{Bool, true, false, not}
+use Prim.Native.Nat.{ℕ, zero, suc, ◌+◌, ◌≤◌, ◌<◌, min}
+use mathlib.Core.Bool.{true, false, not}
 use mathlib.Core.List.{List, [], ◌∷◌}
 use mathlib.Core.Logic.{⊎_elim}
-use mathlib.Core.Path.{◌≡◌, refl, sym, ap, ◌∙◌}
+use mathlib.Core.Path.{◌≡◌, refl, sym, subst, ◌∙◌}
 use native.Mathlib.Numerals.{add-one}
 use native.Mathlib.Omega.{arith}
 use borrow.Author.Tests.{lt-ltb, le-ltb, eq-eqb, ne_eqb}
 use lib.Dec.{eqb}
 use lib.ListN.{length, get_or, drop, drop_of_length-le, get_or-eq_default}
 use lib.Seq.{drop-cons}
+use Rattle.std.specs.List.{zip, HoldsAt, AllWithin}
 use Rattle.refusal.specs.Table.{granted, refused, passing}
-use Rattle.decl.specs.Lists.{any_below}
-use Rattle.decl.proofs.Lists.{below_or_not, any_within}
+use Rattle.decl.proofs.Lists.{below_or_not, any_stop, any_false}
 use Rattle.column_entry.specs.Entry.{is_over, count_rules, wrong_size}
 use Rattle.refusal.specs.Chain.{applies, onward, through}
 
@@ -31,20 +31,40 @@ module _ (rows counts : List ℕ) (a : ℕ) where
   past_counts : length counts ≤ a → is_over rows counts a ≡ false
   past_counts l = not_over (omega (arith, get_or-eq_default counts 0 {n = a} l))
 
-module _ (rows counts : List ℕ) {over : Bool} (e : over ≡ any_below (min (length rows) (length counts)) (is_over rows counts)) where
-  all_over : any_below (length rows) (is_over rows counts) ≡ over
-  all_over =
-      ⊎_elim (λ (h : length rows < length counts). let z : min (length rows) (length counts) ≡ length rows = omega arith in sym (e ∙ ap (λ (n : ℕ). any_below n (is_over rows counts)) z))
-      (λ (h : length counts ≤ length rows). let z : min (length rows) (length counts) ≡ length counts = omega arith in any_within (is_over rows counts) (length counts) (length rows) h (λ b l. past_counts rows counts b l) ∙ sym (e ∙ ap (λ (n : ℕ). any_below n (is_over rows counts)) z))
-      (below_or_not (length rows) (length counts))
+-- rows and counts side by side
+length_zip : (xs ys : List ℕ) → length (zip xs ys) ≡ min (length xs) (length ys)
+length_zip [] ys = omega arith
+length_zip (x ∷ xs) [] = omega arith
+length_zip (x ∷ xs) (y ∷ ys) = omega (arith, length_zip xs ys)
 
-  pub counts_over : over ≡ true → refused 1 ≡ passing (count_rules rows counts)
-  unfolding count_rules
-  counts_over h = applies 1 _ (all_over ∙ h)
+get_or-zip : (xs ys : List ℕ) (k : ℕ) → k < length xs → k < length ys → get_or (zip xs ys) k (0, 0) ≡ (get_or xs k 0, get_or ys k 0)
+get_or-zip [] ys k h l = absurd (omega arith)
+get_or-zip (x ∷ xs) [] k h l = absurd (omega arith)
+get_or-zip (x ∷ xs) (y ∷ ys) zero h l = refl
+get_or-zip (x ∷ xs) (y ∷ ys) (suc k) h l = get_or-zip xs ys k (omega arith) (omega arith)
 
-  pub counts_passed : over ≡ false → granted tt ≡ passing (count_rules rows counts)
+abbrev pub Over : ℕ × ℕ → Type 0
+Over p = p.0 < p.1
+
+abbrev pub Within : ℕ × ℕ → Type 0
+Within p = p.1 ≤ p.0
+
+module _ (rows counts : List ℕ) where
+  pub counts_over : (k : ℕ) × (k < length (zip rows counts)) × HoldsAt Over (zip rows counts) k → refused 1 ≡ passing (count_rules rows counts)
   unfolding count_rules
-  counts_passed h = onward 1 _ (all_over ∙ h) through
+  counts_over (k, h, o) =
+      let l : k < min (length rows) (length counts) = rw length_zip at h in
+      applies 1 _ (any_stop (is_over rows counts) (length rows) k (omega arith)
+      (is_over_lem rows counts k (subst Over (get_or-zip rows counts k (omega arith) (omega arith)) (o (0, 0)))))
+
+  pub counts_passed : AllWithin Within (zip rows counts) 0 (length (zip rows counts)) → granted tt ≡ passing (count_rules rows counts)
+  unfolding count_rules
+  counts_passed f =
+      onward 1 _ (any_false (is_over rows counts) (length rows) (λ a h.
+      ⊎_elim (λ (l : a < length counts).
+      let g : a < length (zip rows counts) = omega (arith, length_zip rows counts) in
+      not_over rows counts a (subst Within (get_or-zip rows counts a h l) (f a (0, 0) (omega arith) g)))
+      (past_counts rows counts a) (below_or_not a (length counts)))) through
 
 -- what is left of the columns decides
 module _ (types sizes : List ℕ) (t n p : ℕ) where
@@ -68,3 +88,28 @@ module _ (types sizes : List ℕ) (t n p : ℕ) where
     pub size_next : (get_or types p 0 ≡ t → ⊥) → wrong_size (drop p types) (drop p sizes) t n ≡ wrong_size (drop (p + 1) types) (drop (p + 1) sizes) t n
     unfolding wrong_size
     size_next e = rw (drop-cons types p 0 h, drop-cons sizes p 0 k, add-one p) (simp (ne_eqb _ _ e))
+
+-- the first column of the type decides
+module _ (types sizes : List ℕ) (t n : ℕ) where
+  from_column : (p : ℕ) → p ≤ length types → ((k : ℕ) → k < p → get_or types k 0 ≡ t → ⊥) → wrong_size types sizes t n ≡ wrong_size (drop p types) (drop p sizes) t n
+  from_column zero h f = refl
+  from_column (suc p) h f =
+      from_column p (omega arith) (λ k l. f k (omega arith))
+      ∙ ⊎_elim
+      (λ (l : p < length sizes). rw (← add-one p) (size_next types sizes t n p (omega arith) l (f p (omega arith))))
+      (λ (l : length sizes ≤ p). size_short types sizes t n p l ∙ sym (size_short types sizes t n (suc p) (omega arith)))
+      (below_or_not p (length sizes))
+
+  pub size_undeclared : AllWithin (λ x. x ≡ t → ⊥) types 0 (length types) → false ≡ wrong_size types sizes t n
+  size_undeclared f =
+      sym (from_column (length types) (omega arith) (λ k h. f k 0 (omega arith) h) ∙ size_none types sizes t n (length types) (omega arith))
+
+  module _ (p : ℕ) (first : (p < length types) × HoldsAt (λ x. x ≡ t) types p × AllWithin (λ x. x ≡ t → ⊥) types 0 p) where
+    up_to : wrong_size types sizes t n ≡ wrong_size (drop p types) (drop p sizes) t n
+    up_to = from_column p (omega (arith, first.0)) (λ k h. first.2 k 0 (omega arith) h)
+
+    pub size_at_short : length sizes ≤ p → false ≡ wrong_size types sizes t n
+    size_at_short l = sym (up_to ∙ size_short types sizes t n p l)
+
+    pub size_at : p < length sizes → not (eqb (get_or sizes p 0) n) ≡ wrong_size types sizes t n
+    size_at l = sym (up_to ∙ size_here types sizes t n p first.0 l (first.1 0))

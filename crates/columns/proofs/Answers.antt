@@ -2,19 +2,19 @@
 -- Assumes nothing.
 use Prim.{tt}
 use Prim.Native.Nat.{ℕ, ◌+◌, ◌-◌, ◌≤◌, ◌<◌}
-use mathlib.Core.List.{List, ◌++◌}
+use mathlib.Core.List.{List, [], ◌++◌}
 use mathlib.Core.Option.{Option}
 use mathlib.Core.Path.{◌≡◌, sym, ap, ◌∙◌}
 use native.Mathlib.Omega.{arith}
 use borrow.Author.Tests.{lt-ltb, leb-false, eqb-true, not-false}
 use lib.ListN.{length, set, take, drop}
+use Rattle.std.specs.Prelude as prelude
+use Rattle.std.specs.Prelude.{Some, None}
 use Rattle.refusal.specs.Table.{Answer, granted, refused, passing, Did}
 use Rattle.refusal.specs.Laws.{passed, passed_all, past, halted, not_refused, value_of_lem, grant, refuse, both}
 use Rattle.decl.specs.Decl.{Decl, archetypes, rows_of, first_row, types_of, sizes_of}
 use Rattle.decl.specs.Places.{row_width, base_of}
 use Rattle.decl.specs.Lookup.{column_of}
-use Rattle.decl.specs.declared.Column.{Column}
-use Rattle.decl.specs.declared.Column.TheVariants.{At, Missing}
 use Rattle.decl.specs.declared.Span.{Span}
 use Rattle.decl.proofs.Keeping.{types_length, sizes_length}
 use Rattle.decl.proofs.Search.{Stands, column_stands}
@@ -106,7 +106,7 @@ module _ (d : Decl) (w : Rows) (a : ℕ) where
     pub ids_lent : take (start + count - start) (drop start w.numbers) ≡ part_for (ids_in d w a) w.numbers
     ids_lent = cell_lent w.numbers start count ∙ ap (λ (x : Answer (ℕ × ℕ)). part_for x w.numbers) e
 
-  pub ids_empty : {m : ℕ} → refused m ≡ ids_in d w a → take (0 - 0) (drop 0 w.numbers) ≡ part_for (ids_in d w a) w.numbers
+  pub ids_empty : {m : ℕ} → refused m ≡ ids_in d w a → [] ≡ part_for (ids_in d w a) w.numbers
   ids_empty e = ap (λ (x : Answer (ℕ × ℕ)). part_for x w.numbers) e
 
 module _ (d : Decl) (w : Rows) (a r : ℕ) where
@@ -179,8 +179,8 @@ module _ (d : Decl) (w : Rows) (a r : ℕ) where
     get_told e f = f ∙ sym (past _ _ e)
 
     -- a cell that is found lies in the buffer
-    cell_fits : There d w a r → (c : Column) → Stands (types_of d a) t c → {start n : ℕ} → granted (start, n) ≡ cell_for d a r c → start + n ≤ length w.bytes
-    cell_fits g (At j) p e =
+    cell_fits : There d w a r → (c : prelude.Option ℕ) → Stands (types_of d a) t c → {start n : ℕ} → granted (start, n) ≡ cell_for d a r c → start + n ≤ length w.bytes
+    cell_fits g (Some j) p e =
         let k = g.ready.tabled.kept.declared.shaped in
         let h : j < length (sizes_of d a) = omega (arith, types_length d k a, sizes_length d k a) in
         let s = same_value e in
@@ -193,7 +193,7 @@ module _ (d : Decl) (w : Rows) (a r : ℕ) where
           ap (λ (x : ℕ × ℕ). x.0) s,
           ap (λ (x : ℕ × ℕ). x.1) s,
         )
-    cell_fits g Missing p e = absurd (not_refused e)
+    cell_fits g None p e = absurd (not_refused e)
 
     pub got_part : (start n : ℕ) (part : List ℕ) → granted (start, n) ≡ got_in d w a r t → part ≡ part_of w.bytes start n → part ≡ part_for (got_in d w a r t) w.bytes
     unfolding got_in
@@ -202,7 +202,7 @@ module _ (d : Decl) (w : Rows) (a r : ℕ) where
         let h = cell_fits (held_there p.0) (column_of (types_of d a) t) (column_stands (types_of d a) t) p.1 in
         f ∙ part_fits w.bytes start n h ∙ ap (λ (x : Answer (ℕ × ℕ)). part_for x w.bytes) e
 
-    pub got_empty : {m : ℕ} → refused m ≡ got_in d w a r t → take (0 - 0) (drop 0 w.bytes) ≡ part_for (got_in d w a r t) w.bytes
+    pub got_empty : {m : ℕ} → refused m ≡ got_in d w a r t → [] ≡ part_for (got_in d w a r t) w.bytes
     got_empty e = ap (λ (x : Answer (ℕ × ℕ)). part_for x w.bytes) e
 
     -- Put.
@@ -216,18 +216,18 @@ module _ (d : Decl) (w : Rows) (a r : ℕ) where
       put_refused e = refuse (halted _ _ e)
 
       module _ (e : granted tt ≡ passing (put_rules d w a r t (length vs))) where
-        none_put : (c : Column) {m : ℕ} → refused m ≡ cell_for d a r c → put_at d w a r vs c ≡ refused m
-        none_put (At j) f = absurd (not_refused (sym f))
-        none_put Missing f = ap refused (sym (same_number f))
+        none_put : (c : prelude.Option ℕ) {m : ℕ} → refused m ≡ cell_for d a r c → put_at d w a r vs c ≡ refused m
+        none_put (Some j) f = absurd (not_refused (sym f))
+        none_put None f = ap refused (sym (same_number f))
 
         pub put_missing : {m : ℕ} → refused m ≡ cell_for d a r (column_of (types_of d a) t) → Did (put_in d w a r t vs) w (refused m) w
         unfolding put_in
         put_missing f = refuse (past _ _ e ∙ none_put (column_of (types_of d a) t) f)
 
-        one_put : (c : Column) (start n : ℕ) → granted (start, n) ≡ cell_for d a r c → put_at d w a r vs c ≡ granted (tt, tables_of w.numbers w.counts (written w.bytes start vs))
-        one_put (At j) start n f =
+        one_put : (c : prelude.Option ℕ) (start n : ℕ) → granted (start, n) ≡ cell_for d a r c → put_at d w a r vs c ≡ granted (tt, tables_of w.numbers w.counts (written w.bytes start vs))
+        one_put (Some j) start n f =
             ap (λ (x : ℕ × ℕ). granted (tt, tables_of w.numbers w.counts (written w.bytes x.0 vs))) (sym (same_value f))
-        one_put Missing start n f = absurd (not_refused f)
+        one_put None start n f = absurd (not_refused f)
 
         pub put_did : (start n : ℕ) (bytes : List ℕ) → granted (start, n) ≡ cell_for d a r (column_of (types_of d a) t) → bytes ≡ written w.bytes start vs
             → Did (put_in d w a r t vs) w (granted tt) (tables_of w.numbers w.counts bytes)

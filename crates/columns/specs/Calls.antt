@@ -1,26 +1,19 @@
 -- The column calls: what each refuses, and what it answers and leaves where it does not.
 use Prim.{Unit, tt}
-use Rattle.std.specs.Prelude.{ℕ, not, ◌&&◌, List, [], ◌∷◌, ◌++◌, leb, ltb, eqb, length, get_or}
-use Rattle.std.proofs.Math.Option.{Option, none, some}
-use Rattle.refusal.specs.Number.{number_of}
-use Rattle.refusal.specs.Table.{Rule, ◌when◌, Answer, granted, refused, ◌or_else◌, ◌otherwise◌}
+use Rattle.std.specs.Prelude as prelude
+use Rattle.std.specs.Prelude.{ℕ, not, ◌&&◌, List, [], ◌∷◌, ◌++◌, leb, ltb, eqb, length, get_or, Result, Some, None}
+use Rattle.std.proofs.Math.Option.{Option}
+use Rattle.handle.specs.declared.Number.{Number}
+use Rattle.handle.specs.declared.Row.{Row}
+use Rattle.refusal.specs.declared.Refusal.{Refusal}
+use Rattle.refusal.specs.Table.{Rule, ◌when◌, Answer, granted, refused, ◌or_else◌, ◌otherwise◌, answer_by}
 use Rattle.decl.specs.Decl.{Decl, archetypes, first_row, types_of, sizes_of, size_of}
 use Rattle.decl.specs.Places.{row_width, cell_start}
 use Rattle.decl.specs.Lookup.{column_of}
-use Rattle.decl.specs.declared.Column.{Column}
-use Rattle.decl.specs.declared.Column.TheVariants.{At, Missing}
 use Rattle.cells.specs.Cell.{cell, written}
 use Rattle.cells.specs.Line.{row_bytes}
-use Rattle.row_step.specs.Tables.{Rows, tables_of, count_of, number_in, line_in, appended, removed, moved_by}
+use Rattle.row_step.specs.Tables.{Rows, tables_of, count_of, number_in, line_in, appended, removed, moved_by, moved_of}
 use Rattle.column_entry.specs.Entry.{table_rules, count_rules, entry_rules, row_rules, wrong_size, block_in}
-use Rattle.columns.specs.declared.Allocated.{Allocated}
-use Rattle.columns.specs.declared.Allocated.TheVariants as allocated
-use Rattle.columns.specs.declared.Removed.{Removed}
-use Rattle.columns.specs.declared.Removed.TheVariants as removed-variants
-use Rattle.columns.specs.declared.Stored.{Stored}
-use Rattle.columns.specs.declared.Stored.TheVariants as stored
-use Rattle.columns.specs.declared.Found.{Found}
-use Rattle.columns.specs.declared.Found.TheVariants as found
 
 -- what a row of archetype a holds in column j, and its number
 unfoldable pub held_at : Decl → Rows → ℕ → ℕ → ℕ → List ℕ
@@ -39,23 +32,12 @@ removed_from d w a r = removed (block_in d a) (sizes_of d a) w a r
 abbrev pub written_to : Decl → Rows → ℕ → ℕ → ℕ → List ℕ → Rows
 written_to d w a r j vs = tables_of w.numbers w.counts (written w.bytes (cell_start d a j r) vs)
 
--- The document's number and values of each case of an answer: a row; the moved number or none; nothing; where a part begins, and how long it is.
-abbrev pub allocated_of : Allocated → Answer ℕ
-allocated_of (allocated.At r) = granted r.0
-allocated_of (allocated.Refused r) = refused (number_of r)
+-- The document's number and values of what two of the calls answer: a row; the moved number or none.
+abbrev pub allocated_of : Result Row Refusal → Answer ℕ
+allocated_of = answer_by (λ r. r.0)
 
-abbrev pub removed_of : Removed → Answer (Option ℕ)
-removed_of (removed-variants.Moved n) = granted (some n.0)
-removed_of removed-variants.Last = granted none
-removed_of (removed-variants.Refused r) = refused (number_of r)
-
-abbrev pub stored_of : Stored → Answer (Unit {0})
-stored_of stored.Done = granted tt
-stored_of (stored.Refused r) = refused (number_of r)
-
-abbrev pub found_of : Found → Answer (ℕ × ℕ)
-found_of (found.At start len) = granted (start, len)
-found_of (found.Refused r) = refused (number_of r)
+abbrev pub removed_of : Result (prelude.Option Number) Refusal → Answer (Option ℕ)
+removed_of = answer_by moved_of
 
 -- Allocate: the number goes into the first unused row, whose position is answered.
 unfoldable pub room_rules : List ℕ → List ℕ → ℕ → List Rule
@@ -100,17 +82,17 @@ put_rules d w a r t len =
     table_rules d w ++ size_rules d.rows d.types d.sizes a t len ++ count_rules d.rows w.counts ++ row_rules d.rows w.counts a r
 
 -- the bytes with them in the cell of a column, or 15
-abbrev pub put_at : Decl → Rows → ℕ → ℕ → List ℕ → Column → Answer (Unit {0} × Rows)
-put_at d w a r vs (At j) = granted (tt, written_to d w a r j vs)
-put_at d w a r vs Missing = refused 15
+abbrev pub put_at : Decl → Rows → ℕ → ℕ → List ℕ → prelude.Option ℕ → Answer (Unit {0} × Rows)
+put_at d w a r vs (Some j) = granted (tt, written_to d w a r j vs)
+put_at d w a r vs None = refused 15
 
 unfoldable pub put_in : Decl → Rows → ℕ → ℕ → ℕ → List ℕ → Answer (Unit {0} × Rows)
 put_in d w a r t vs = put_rules d w a r t (length vs) or_else put_at d w a r vs (column_of (types_of d a) t)
 
 -- Get: where the component's bytes are.
-abbrev pub cell_for : Decl → ℕ → ℕ → Column → Answer (ℕ × ℕ)
-cell_for d a r (At j) = granted (cell_start d a j r, size_of d a j)
-cell_for d a r Missing = refused 15
+abbrev pub cell_for : Decl → ℕ → ℕ → prelude.Option ℕ → Answer (ℕ × ℕ)
+cell_for d a r (Some j) = granted (cell_start d a j r, size_of d a j)
+cell_for d a r None = refused 15
 
 unfoldable pub got_in : Decl → Rows → ℕ → ℕ → ℕ → Answer (ℕ × ℕ)
 got_in d w a r t = held_rules d w a r or_else cell_for d a r (column_of (types_of d a) t)

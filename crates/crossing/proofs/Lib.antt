@@ -3,4 +3,5 @@ mod Signed
 mod Heads
 pub mod Sole
 pub mod Telling
+pub mod Headed
 pub mod Determined

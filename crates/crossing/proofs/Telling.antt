@@ -1,12 +1,18 @@
 -- An answer that has crossed, from what it is.
 -- Assumes nothing.
-use Prim.Native.Nat.{ℕ}
-use mathlib.Core.Path.{◌≡◌, refl}
-use mathlib.Core.List.{List}
-use Rattle.refusal.specs.Table.{Answer, granted, refused, Did}
+use Rattle.std.specs.Prelude.{ℕ, ◌≡◌, refl, List, Result, Ok, Err}
+use Rattle.std.proofs.Common.{◌∙◌}
+use Rattle.refusal.specs.declared.Refusal.{Refusal}
+use Rattle.refusal.specs.Table.{Answer, granted, refused, Did, answer_of, answer_by}
 use Rattle.id_tables.specs.declared.head.Head.{Head}
 use Rattle.id_tables.specs.Ids.{Ids, ids_of}
 use Rattle.crossing.specs.Answers.{Told, Crossed, Passed, four, code_of}
+
+-- what is granted, told by the values that are made of it
+pub told_by : {R A : Type 0} {four : R → List ℕ} {numbers : A → List ℕ} {code : ℕ} {out : List ℕ} (values : R → A) → ((v : R) → four v ≡ numbers (values v))
+    → (r : Result R Refusal) → Told four (answer_of r) code out → Told numbers (answer_by values r) code out
+told_by values same (Ok v) t = record { code_is = t.code_is; out_is = t.out_is ∙ same v }
+told_by values same (Err r) t = record { code_is = t.code_is; out_is = t.out_is }
 
 module _ {A : Type 0} {values : A → List ℕ} {a : Answer A} where
   pub told_granted : {v : A} {out : List ℕ} → a ≡ granted v → out ≡ values v → Told values a 0 out

@@ -1,7 +1,8 @@
 -- An answer as a number and four more: the refusal's number, 0 where the call is granted, and what is granted, then zeros.
-use Rattle.std.specs.Prelude.{ℕ, Bool, cond, ◌≡◌, List, [], ◌∷◌}
-use Rattle.std.proofs.Math.Option.{Option, none, some}
+use Rattle.std.specs.Prelude.{ℕ, Bool, cond, ◌≡◌, List, [], ◌∷◌, Option, Some, None}
+use Rattle.std.proofs.Math.Option.{Option as Maybe, none, some}
 use Rattle.refusal.specs.Table.{Answer, granted, refused, value_of, left_of}
+use Rattle.handle.specs.declared.Number.{Number}
 use Rattle.handle.specs.declared.Place.{Place}
 
 abbrev pub four : ℕ → ℕ → ℕ → ℕ → List ℕ
@@ -21,13 +22,22 @@ abbrev pub part_four : ℕ × ℕ → List ℕ
 part_four p = four p.0 p.1 0 0
 
 -- 0, or 1 and what there is
-abbrev pub maybe_four : Option ℕ → List ℕ
+abbrev pub maybe_four : Maybe ℕ → List ℕ
 maybe_four none = four 0 0 0 0
 maybe_four (some n) = four 1 n 0 0
 
-abbrev pub old_place_four : Option Place → List ℕ
+abbrev pub old_place_four : Maybe Place → List ℕ
 old_place_four none = four 0 0 0 0
 old_place_four (some p) = four 1 p.archetype p.index.0 0
+
+-- the same of the program's options
+abbrev pub maybe_number_four : Option Number → List ℕ
+maybe_number_four None = four 0 0 0 0
+maybe_number_four (Some n) = four 1 n.0 0 0
+
+abbrev pub maybe_place_four : Option Place → List ℕ
+maybe_place_four None = four 0 0 0 0
+maybe_place_four (Some p) = four 1 p.archetype p.index.0 0
 
 abbrev pub code_of : {A : Type 0} → Answer A → ℕ
 code_of (granted v) = 0

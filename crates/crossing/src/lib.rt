@@ -4,7 +4,5 @@
 mod answers;
 mod words;
 
-pub use answers::{
-    chosen, contained, counted, done, found, freed, given, refuse, resolved, store, tested,
-};
+pub use answers::{Crossing, code, cross};
 pub use words::{head_of, put_head};

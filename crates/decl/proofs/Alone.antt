@@ -8,25 +8,16 @@ use mathlib.Core.List.{List, []}
 use native.Mathlib.Omega.{arith}
 use lib.ListN.{length, get_or}
 use lib.Seq.{take_all}
-use Rattle.decl.specs.Limits.{max_columns, max_size, max_rows}
+use Rattle.std.specs.Prelude.{Some}
+use Rattle.decl.specs.Limits.{max_columns, max_rows}
 use Rattle.decl.specs.Lists.{sum, first_of, part_of, rising}
 use Rattle.decl.specs.Decl.{Decl, archetypes, rows_of, width_of, first_row}
 use Rattle.decl.specs.Places.{base_of}
 use Rattle.decl.specs.Steps.{Orderly, Plain, Ordered, Settled}
-use Rattle.decl.specs.declared.quick.Width.{Width}
-use Rattle.decl.specs.declared.quick.Width.TheVariants.{Of}
-use Rattle.decl.specs.declared.quick.Glance.TheVariants.{Clear}
 use Rattle.decl.proofs.Lists.{rising_all, one_place, first_none, first_step, part_lent}
 use Rattle.decl.proofs.Glancing.{last_or_before}
 use Rattle.decl.proofs.Counting.{counted_start, counted_next, counted_shape, width_told}
 use Rattle.decl.proofs.Measuring.{settled}
-
--- an ordered list of sizes, once its width has been taken apart
-order_at : {types sizes : List ℕ} {width : ℕ} {r : Width} → Ordered types sizes r → r ≡ Of width → Orderly types sizes 0 (length types) width
-order_at w e = rw e at w.told
-
-pub order_small : {types sizes : List ℕ} {width : ℕ} {r : Width} → Ordered types sizes r → r ≡ Of width → length types ≤ max_columns → width ≤ max_size * max_columns
-order_small w e h = omega (arith, (order_at w e).narrow)
 
 module _ (widths types sizes : List ℕ) (bare : get_or widths 0 0 ≡ 0) (own : length types ≡ get_or widths 1 0) where
   first_own : 0 ≡ first_of widths 1
@@ -60,10 +51,10 @@ module _ (widths types sizes : List ℕ) (bare : get_or widths 0 0 ≡ 0) (own :
 
 module _ (d : Decl) (many : archetypes d ≡ 2) (long : length d.widths ≡ 2) (bare : width_of d 0 ≡ 0) (paired : length d.sizes ≡ length d.types) (some : length d.types ≡ 0 → ⊥)
     (narrow : width_of d 1 ≤ max_columns) (own : length d.types ≡ width_of d 1) (low : rows_of d 0 ≤ max_rows) (low-own : rows_of d 1 ≤ max_rows) where
-  pub alone_settles : {width : ℕ} {r : Width} → Ordered d.types d.sizes r → r ≡ Of width → Settled d (Clear (record { rows = rows_of d 0 + rows_of d 1; bytes = rows_of d 1 * width }))
+  pub alone_settles : {width : ℕ} → Ordered d.types d.sizes (Some width) → Settled d (Some (record { rows = rows_of d 0 + rows_of d 1; bytes = rows_of d 1 * width }))
   unfolding sum
-  alone_settles {width} w e =
-      let o = order_at w e in
+  alone_settles {width} w =
+      let o = w.told in
       let first = counted_next d (counted_start d) refl refl low (omega arith) (width_told d 0 0 0 (sym (first_none d.widths)) (first_own d.widths d.types d.sizes bare own) refl) (omega arith) in
       let both = counted_next d first refl refl low-own narrow (width_told d 1 0 (length d.types) (first_own d.widths d.types d.sizes bare own) (first_both d.widths d.types d.sizes bare own) o.wide) (omega (arith, o.narrow)) in
       settled d (counted_shape d both (sym many) (omega arith) (omega arith) (long ∙ sym many) bare (omega arith) (omega arith))

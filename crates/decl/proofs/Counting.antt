@@ -7,6 +7,7 @@ use mathlib.Core.Logic.{⊎_elim}
 use native.Mathlib.Nat.{mul-le-mul}
 use native.Mathlib.Omega.{arith}
 use lib.ListN.{length, get_or, set, take, drop, get_or-eq_default}
+use Rattle.std.specs.Prelude.{Some}
 use Rattle.decl.specs.Limits.{max_archetypes, max_columns, max_rows}
 use Rattle.decl.specs.Lists.{sum, first_of}
 use Rattle.decl.specs.Decl.{Decl, archetypes, rows_of, width_of, first_row, sizes_of}
@@ -14,9 +15,8 @@ use Rattle.decl.specs.Places.{row_width, base_of}
 use Rattle.decl.specs.Kept.{Shaped}
 use Rattle.decl.specs.Steps.{Marked}
 use Rattle.decl.specs.declared.quick.Mark.{Mark}
-use Rattle.decl.specs.declared.quick.Mark.TheVariants.{Of}
 use Rattle.decl.proofs.Lists.{below_or_not, part_lent, first_none, first_step, first_all}
-use Rattle.decl.proofs.Glancing.{last_or_before, Passing, passing_next, mark_at, mark_small}
+use Rattle.decl.proofs.Glancing.{last_or_before, Passing, passing_next, mark_small}
 use Rattle.decl.proofs.Keeping.{columns_all}
 use Rattle.decl.proofs.Placing.{base_next, row_next}
 
@@ -94,13 +94,13 @@ module _ (d : Decl) where
         }
 
     -- the same past an archetype that the quick look found orderly, and whose mark is new
-    pub look_next : {seen sized seen' sized' marks : List ℕ} {m width : ℕ} {q : Mark} → Passing d.widths d.types d.sizes seen sized marks column a
-        → Marked d.types d.sizes seen' sized' column (column + width_of d a) q → q ≡ Of m width → rows_of d a ≤ max_rows → width_of d a ≤ max_columns → column + width_of d a ≤ length d.types → a < max_archetypes
-        → ((b : ℕ) → b < a → get_or marks b 0 ≡ m → ⊥)
-        → Counted d (row + rows_of d a) (column + width_of d a) (base + rows_of d a * width) (a + 1)
-        × Passing d.widths d.types d.sizes seen' sized' (set marks a m) (column + width_of d a) (a + 1)
-    look_next w q e h k l i new =
-        let o = mark_at q e in (
-          counted_next refl refl h k (width_told a column (column + width_of d a) r.columns_passed (counted_end refl) o.orderly.wide) (omega (arith, mark_small q e (omega arith))),
+    pub look_next : {seen sized seen' sized' marks : List ℕ} {m : Mark} → Passing d.widths d.types d.sizes seen sized marks column a
+        → Marked d.types d.sizes seen' sized' column (column + width_of d a) (Some m) → rows_of d a ≤ max_rows → width_of d a ≤ max_columns → column + width_of d a ≤ length d.types → a < max_archetypes
+        → ((b : ℕ) → b < a → get_or marks b 0 ≡ m.bits → ⊥)
+        → Counted d (row + rows_of d a) (column + width_of d a) (base + rows_of d a * m.width) (a + 1)
+        × Passing d.widths d.types d.sizes seen' sized' (set marks a m.bits) (column + width_of d a) (a + 1)
+    look_next w q h k l i new =
+        let o = q.told in (
+          counted_next refl refl h k (width_told a column (column + width_of d a) r.columns_passed (counted_end refl) o.orderly.wide) (omega (arith, mark_small q (omega arith))),
           passing_next _ _ _ w r.columns_passed (counted_end refl) o (omega arith) l i new,
         )

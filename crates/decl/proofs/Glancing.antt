@@ -1,79 +1,28 @@
 -- The quick look at the columns: what it notes of them, and that columns it finds plain keep the rules.
 -- Assumes nothing.
 use Prim.Native.Nat.{ℕ, zero, suc, ◌+◌, ◌-◌, ◌*◌, ◌%◌, ◌^◌, ◌≤◌, ◌<◌}
-use mathlib.Core.Bool.{Bool, true, false}
+use mathlib.Core.Bool.{true}
 use mathlib.Core.Path.{◌≡◌, refl, sym, ap, ◌∙◌}
-use mathlib.Core.Logic.{◌⊎◌, inl, inr, ⊎_elim}
+use mathlib.Core.Logic.{◌⊎◌, ⊎_elim}
 use mathlib.Core.List.{List, [], ◌∷◌}
 use native.Mathlib.Nat.{not-suc-le-zero, eq-or-lt_of_le, add-suc}
 use native.Mathlib.Numerals.{add-one}
 use native.Mathlib.Omega.{arith}
-use borrow.Author.Tests.{eqb-true, eqb-false}
 use lib.Bits.{bit_or}
-use lib.Dec.{eqb}
 use lib.ListN.{length, get_or, set, take, drop, replicate, length-set, length-take}
 use lib.Seq.{drop-cons, get_or-take, get_or-drop, get_or-set_same, get_or-set_other}
+use Rattle.std.specs.Prelude.{Some}
 use Rattle.decl.specs.Limits.{max_archetypes, max_columns, max_size}
 use Rattle.decl.specs.Lists.{sum, first_of, part_of, rising}
 use Rattle.decl.specs.Steps.{Noted, mark_from, Orderly, MarkAt, Marked, Plain}
 use Rattle.decl.specs.declared.quick.Mark.{Mark}
-use Rattle.decl.specs.declared.quick.Mark.TheVariants.{Of}
 use Rattle.decl.proofs.Lists.{below_or_not, rising_all, part_lent}
-
-equal_or_not : (a b : ℕ) → (a ≡ b) ⊎ (a ≡ b → ⊥)
-equal_or_not a b = side (eqb a b) refl where
-  side : (s : Bool) → eqb a b ≡ s → (a ≡ b) ⊎ (a ≡ b → ⊥)
-  side true e = inl (eqb-true a b e)
-  side false e = inr (eqb-false a b e)
 
 -- of the numbers below p + 1: p itself, or one below it
 pub last_or_before : (k p : ℕ) → k < p + 1 → (k ≡ p) ⊎ (k < p)
 last_or_before k p h = eq-or-lt_of_le {n = k} {m = p} (omega arith)
 
 module _ (types sizes seen sized : List ℕ) (p : ℕ) (n : Noted types sizes seen sized p) where
-  abbrev slot : ℕ
-  slot = get_or types p 0 % 64
-
-  -- the first column with its low bits is noted
-  module _ (new : get_or seen slot 0 % 64 ≡ slot → ⊥) (s : get_or sizes p 0 ≤ max_size) where
-    unlike : (k : ℕ) → k < p → get_or types k 0 % 64 ≡ slot → ⊥
-    unlike k h e = new (ap (λ (x : ℕ). x % 64) (ap (λ (z : ℕ). get_or seen z 0) (sym e) ∙ n.like k h) ∙ e)
-
-    -- what the table then holds for each column passed, where it holds the numbers of xs
-    has : (table xs : List ℕ) → length table ≡ 64 → ((k : ℕ) → k < p → get_or table (get_or types k 0 % 64) 0 ≡ get_or xs k 0)
-        → (k : ℕ) → k < p + 1 → get_or (set table slot (get_or xs p 0)) (get_or types k 0 % 64) 0 ≡ get_or xs k 0
-    has table xs l f k h =
-        ⊎_elim (λ e. rw e (get_or-set_same table slot (get_or xs p 0) 0 (omega arith)))
-        (λ m. get_or-set_other table slot (get_or types k 0 % 64) (get_or xs p 0) 0 (unlike k m) ∙ f k m) (last_or_before k p h)
-
-    within : (k : ℕ) → get_or (set sized slot (get_or sizes p 0)) k 0 ≤ max_size
-    within k =
-        ⊎_elim (λ e. rw (e, get_or-set_same sized slot (get_or sizes p 0) 0 (omega (arith, n.sized_long))) s)
-        (λ e. rw (get_or-set_other sized slot k (get_or sizes p 0) 0 e) (n.small k)) (equal_or_not k slot)
-
-    pub noted_new : Noted types sizes (set seen slot (get_or types p 0)) (set sized slot (get_or sizes p 0)) (p + 1)
-    noted_new =
-        record {
-          seen_long = length-set seen slot (get_or types p 0) ∙ n.seen_long;
-          sized_long = length-set sized slot (get_or sizes p 0) ∙ n.sized_long;
-          small = within;
-          like = has seen types n.seen_long n.like;
-          alike = has sized sizes n.sized_long n.alike;
-        }
-
-  -- it is like the one that is noted
-  pub noted_like : get_or seen slot 0 ≡ get_or types p 0 → get_or sized slot 0 ≡ get_or sizes p 0 → Noted types sizes seen sized (p + 1) × (get_or sizes p 0 ≤ max_size)
-  noted_like t s = (
-    record {
-      seen_long = n.seen_long;
-      sized_long = n.sized_long;
-      small = n.small;
-      like = λ k h. ⊎_elim (λ e. rw e t) (λ m. n.like k m) (last_or_before k p h);
-      alike = λ k h. ⊎_elim (λ e. rw e s) (λ m. n.alike k m) (last_or_before k p h);
-    },
-    rw (← s) (n.small slot),
-  )
-
   -- columns of one type have one size
   pub noted_one : (i j : ℕ) → i < p → j < p → get_or types i 0 ≡ get_or types j 0 → get_or sizes i 0 ≡ get_or sizes j 0
   noted_one i j h m e = sym (n.alike i h) ∙ ap (λ (x : ℕ). get_or sized (x % 64) 0) e ∙ n.alike j m
@@ -108,17 +57,6 @@ module _ (types : List ℕ) (from to : ℕ) where
   marking_end mark p g l = sym (g ∙ ap (mark_from mark) (none_left types p to l))
 
 module _ (types sizes : List ℕ) (from to : ℕ) where
-  pub going_start : Going types sizes from to 0 0 from
-  going_start =
-      record {
-        on_way = omega arith;
-        small = λ k h m. omega arith;
-        rises = λ k h m. omega arith;
-        below = λ k h m. omega arith;
-        wide = omega arith;
-        narrow = omega arith;
-      }
-
   pub going_next : {width least p : ℕ} → Going types sizes from to width least p → p < to → to ≤ length sizes → least ≤ get_or types p 0 → get_or sizes p 0 ≤ max_size
       → Going types sizes from to (width + get_or sizes p 0) (get_or types p 0 + 1) (p + 1)
   unfolding sum
@@ -148,12 +86,9 @@ module _ (types sizes : List ℕ) (from to : ℕ) where
       → MarkAt types sizes seen sized from to mark width
   marked {mark = mark} {p = p} n g m h l = let e : p ≡ to = omega arith in record { noted_to = rw e at n; orderly = going_end g h l; marked = marking_end types from to mark p m l }
 
--- What is said of a mark that was taken apart.
-pub mark_at : {types sizes seen sized : List ℕ} {from to m width : ℕ} {r : Mark} → Marked types sizes seen sized from to r → r ≡ Of m width → MarkAt types sizes seen sized from to m width
-mark_at w e = rw e at w.told
-
-pub mark_small : {types sizes seen sized : List ℕ} {from to m width : ℕ} {r : Mark} → Marked types sizes seen sized from to r → r ≡ Of m width → to ≤ from + max_columns → width ≤ max_size * max_columns
-mark_small w e h = omega (arith, (mark_at w e).orderly.narrow)
+-- the width of a row of few columns
+pub mark_small : {types sizes seen sized : List ℕ} {from to : ℕ} {m : Mark} → Marked types sizes seen sized from to (Some m) → to ≤ from + max_columns → m.width ≤ max_size * max_columns
+mark_small w h = omega (arith, w.told.orderly.narrow)
 
 -- what the walk through the archetypes knows before archetype a, whose columns begin at `at`
 pub record Passing (widths types sizes seen sized marks : List ℕ) (at a : ℕ) : Type 0 where

@@ -18,7 +18,7 @@ use Rattle.decl.specs.Lists.{sum, first_of, rising, any_above, any_below, any_pa
 use Rattle.decl.specs.Decl.{Decl, archetypes, width_of, columns, first_column, types_of, sizes_of, type_of, size_of}
 use Rattle.decl.specs.Rules.{shape_rules, same_types, sizes_differ, column_rules, decl_rules}
 use Rattle.decl.specs.Kept.{Shaped, Declared}
-use Rattle.decl.proofs.Lists.{false_true, and_left, and_right, below_or_not, any_at, pair_at, above_at, rising_end, one_place, same_false, first_all, part_in_sum, part_length, part_at, part_in, part_lent, first_step, first_none, first_next}
+use Rattle.decl.proofs.Lists.{false_true, and_left, and_right, below_or_not, any_at, pair_at, above_at, rising_all, one_place, same_false, first_all, part_in_sum, part_length, part_at, part_in, part_lent, first_step, first_none, first_next}
 use Rattle.decl.proofs.Merge.{two_false}
 
 -- Rules that all have the number 12: any one of them that applies decides.
@@ -101,7 +101,7 @@ module _ (d : Decl) where
     all_rise : any_below (archetypes d) (λ a. not (rising (types_of d a))) ≡ false → (a : ℕ) → rising (types_of d a) ≡ true
     all_rise e a =
         ⊎_elim (λ h. not-false _ (any_at (λ k. not (rising (types_of d k))) (archetypes d) e a h))
-        (λ (h : archetypes d ≤ a). rising_end (types_of d a) 0 (omega (arith, types_length a, get_or-eq_default d.widths 0 {n = a} (omega (arith, g.widths_long)))))
+        (λ (h : archetypes d ≤ a). rising_all (types_of d a) (λ k l. omega (arith, types_length a, get_or-eq_default d.widths 0 {n = a} (omega (arith, g.widths_long)))))
         (below_or_not a (archetypes d))
 
     sets_differ : any_pair (archetypes d) (same_types d) ≡ false

@@ -10,8 +10,11 @@ use native.Mathlib.Numerals.{add-one}
 use native.Mathlib.Omega.{arith}
 use borrow.Author.Tests.{lt-ltb, le-ltb, ltb-true, ltb-false, eq-eqb, eqb-true}
 use lib.Dec.{ltb, eqb}
-use lib.ListN.{length, get_or, take, drop, length-take, length-drop, drop_of_length-le}
-use lib.Seq.{take_all, take-nil, drop-nil, drop-cons, get_or-take, get_or-drop}
+use lib.ListN.{length, get_or, take, drop, length-take, length-drop}
+use lib.Seq.{take_all, take-nil, get_or-take, get_or-drop}
+use Rattle.std.specs.List.{IsAllAdjacentAnswer, list_any}
+use Rattle.std.specs.List as whole
+use Rattle.std.proofs.lemmas.List.Recursion.{same_from_clauses, is_sum_by}
 use Rattle.decl.specs.Lists.{sum, first_of, part_of, any_above, rising, same, any_below, any_pair}
 
 pub false_true : false ≡ true → ⊥
@@ -85,19 +88,10 @@ pub pair_false : (p : ℕ → ℕ → Bool) (n : ℕ) → ((a b : ℕ) → a < b
 unfolding any_pair
 pair_false p n h = any_false _ n (λ b k. any_false _ b (λ a l. h a b l k))
 
--- A number above max: what is left of the list decides.
-module _ (max : ℕ) (xs : List ℕ) (i : ℕ) where
-  pub above_here : i < length xs → max < get_or xs i 0 → any_above max (drop i xs) ≡ true
-  unfolding any_above
-  above_here h l = rw (drop-cons xs i 0) (simp (lt-ltb _ _ l))
-
-  pub above_next : i < length xs → get_or xs i 0 ≤ max → any_above max (drop i xs) ≡ any_above max (drop (i + 1) xs)
-  unfolding any_above
-  above_next h l = rw (drop-cons xs i 0, add-one) (simp (le-ltb _ _ l))
-
-  pub above_none : length xs ≤ i → any_above max (drop i xs) ≡ false
-  unfolding any_above
-  above_none h = rw (drop_of_length-le xs h)
+-- A number above max: the library's `any` tells it.
+pub above_any : (max : ℕ) (xs : List ℕ) → list_any (ltb max) xs ≡ any_above max xs
+unfolding any_above
+above_any max xs = same_from_clauses (list_any (ltb max)) (any_above max) (λ x b. ltb max x || b) refl (λ _ _. refl) (λ _ _. refl) xs
 
 pub above_at : (max : ℕ) (xs : List ℕ) → any_above max xs ≡ false → (k : ℕ) → get_or xs k 0 ≤ max
 unfolding any_above
@@ -110,38 +104,7 @@ unfolding any_above
 above_false max [] h = refl
 above_false max (x ∷ xs) h = rw (le-ltb max x (h 0 (omega arith))) (above_false max xs (λ k l. h (suc k) (omega arith)))
 
--- Ascending: what is left of the list decides.
-rise_stop : (xs : List ℕ) (i : ℕ) → suc i < length xs → get_or xs (suc i) 0 ≤ get_or xs i 0 → rising (drop i xs) ≡ false
-unfolding rising
-rise_stop [] i h l = absurd (not-suc-le-zero h)
-rise_stop (x ∷ []) i h l = absurd (not-suc-le-zero (le_of_suc-le-suc h))
-rise_stop (x ∷ y ∷ xs) zero h l = simp (le-ltb _ _ l)
-rise_stop (x ∷ y ∷ xs) (suc i) h l = rise_stop (y ∷ xs) i (le_of_suc-le-suc h) l
-
-rise_next : (xs : List ℕ) (i : ℕ) → suc i < length xs → get_or xs i 0 < get_or xs (suc i) 0 → rising (drop i xs) ≡ rising (drop (suc i) xs)
-unfolding rising
-rise_next [] i h l = absurd (not-suc-le-zero h)
-rise_next (x ∷ []) i h l = absurd (not-suc-le-zero (le_of_suc-le-suc h))
-rise_next (x ∷ y ∷ xs) zero h l = simp (lt-ltb _ _ l)
-rise_next (x ∷ y ∷ xs) (suc i) h l = rise_next (y ∷ xs) i (le_of_suc-le-suc h) l
-
-rise_end : (xs : List ℕ) (i : ℕ) → length xs ≤ suc i → rising (drop i xs) ≡ true
-unfolding rising
-rise_end [] i h = rw drop-nil
-rise_end (x ∷ []) zero h = refl
-rise_end (x ∷ y ∷ xs) zero h = absurd (not-suc-le-zero (le_of_suc-le-suc h))
-rise_end (x ∷ xs) (suc i) h = rise_end xs i (le_of_suc-le-suc h)
-
-module _ (xs : List ℕ) (i : ℕ) where
-  pub rising_stop : i + 1 < length xs → get_or xs (i + 1) 0 ≤ get_or xs i 0 → rising (drop i xs) ≡ false
-  rising_stop h l = rise_stop xs i (omega arith) (rw add-one at l)
-
-  pub rising_next : i + 1 < length xs → get_or xs i 0 < get_or xs (i + 1) 0 → rising (drop i xs) ≡ rising (drop (i + 1) xs)
-  rising_next h l = rw add-one (rise_next xs i (omega arith) (rw add-one at l))
-
-  pub rising_end : length xs ≤ i + 1 → rising (drop i xs) ≡ true
-  rising_end h = rise_end xs i (omega arith)
-
+-- Ascending.
 pub rising_all : (xs : List ℕ) → ((k : ℕ) → suc k < length xs → get_or xs k 0 < get_or xs (suc k) 0) → rising xs ≡ true
 unfolding rising
 rising_all [] h = refl
@@ -154,6 +117,14 @@ rises_one [] e k h = absurd (not-suc-le-zero h)
 rises_one (x ∷ []) e k h = absurd (not-suc-le-zero (le_of_suc-le-suc h))
 rises_one (x ∷ y ∷ xs) e zero h = ltb-true x y (and_left (ltb x y) (rising (y ∷ xs)) e)
 rises_one (x ∷ y ∷ xs) e (suc k) h = rises_one (y ∷ xs) (and_right (ltb x y) (rising (y ∷ xs)) e) k (le_of_suc-le-suc h)
+
+-- the library's `is_sorted_by` tells it
+pub rising_answer : (xs : List ℕ) (r : Bool) → IsAllAdjacentAnswer (λ x y b. b ≡ ltb x y) xs r → r ≡ rising xs
+rising_answer xs true h = sym (rising_all xs (λ k l. ltb-true _ _ (sym (rw add-one at (h k 0 (omega arith))))))
+rising_answer xs false h = side (rising xs) refl where
+  side : (s : Bool) → rising xs ≡ s → false ≡ s
+  side true e = h.2 0 ∙ lt-ltb _ _ (rw (← add-one h.0) at (rises_one xs e h.0 (omega (arith, h.1))))
+  side false e = refl
 
 pub rises : (xs : List ℕ) → rising xs ≡ true → (i j : ℕ) → i < j → j < length xs → get_or xs i 0 < get_or xs j 0
 rises xs e i zero l h = absurd (not-suc-le-zero l)
@@ -197,6 +168,11 @@ pub ne_same : (xs ys : List ℕ) → (xs ≡ ys → ⊥) → same xs ys ≡ fals
 ne_same xs ys h = told xs ys (same xs ys) refl h
 
 -- Sums, and where the parts of a list begin.
+-- the library's sum
+pub sum_is : (xs : List ℕ) → sum xs ≡ whole.sum xs
+unfolding sum
+sum_is xs = is_sum_by sum (λ x. x) refl (λ _ _. refl) xs
+
 pub first_none : (xs : List ℕ) → first_of xs 0 ≡ 0
 unfolding first_of sum
 first_none xs = refl

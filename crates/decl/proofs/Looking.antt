@@ -7,17 +7,25 @@ use mathlib.Core.List.{List, [], ◌∷◌}
 use borrow.Author.Tests.{le-leb, lt-leb}
 use lib.Dec.{leb}
 use lib.ListN.{take, drop}
-use Rattle.refusal.specs.Table.{◌when◌, granted, refused, ◌or_else◌, passing}
+use Rattle.std.specs.Prelude.{Option, Some, None, Result}
+use Rattle.std.specs.Option.{ok_or}
+use Rattle.refusal.specs.Table.{◌when◌, granted, refused, ◌or_else◌, passing, answer_of}
+use Rattle.refusal.specs.declared.Refusal.{Refusal}
+use Rattle.refusal.specs.declared.Refusal.TheVariants.{NoComponent}
 use Rattle.refusal.specs.Laws.{past, halted, parts}
 use Rattle.decl.specs.Lists.{first_of}
 use Rattle.decl.specs.Decl.{Decl, archetypes, types_of}
 use Rattle.decl.specs.Rules.{decl_rules}
 use Rattle.decl.specs.Kept.{Declared}
 use Rattle.decl.specs.Lookup.{column_of, searched, held, looked_up}
-use Rattle.decl.specs.declared.Column.{Column}
 use Rattle.decl.proofs.Lists.{part_lent}
 use Rattle.decl.proofs.Search.{searched_rising}
 use Rattle.decl.proofs.Keeping.{declared}
+
+-- what is found is the answer, and nothing is refusal 15
+pub held_told : {r : Result ℕ Refusal} (c : Option ℕ) → r ≡ ok_or c NoComponent → answer_of r ≡ held c
+held_told (Some j) e = ap answer_of e
+held_told None e = ap answer_of e
 
 module _ (d : Decl) (a t : ℕ) where
   pub look_halts : {n : ℕ} → refused n ≡ passing (decl_rules d) → refused n ≡ looked_up d a t
@@ -34,7 +42,7 @@ module _ (d : Decl) (a t : ℕ) where
     look_place h = rw (look_past, le-leb (archetypes d) a h)
 
     -- the search finds it in the part that is lent
-    pub look_found : a < archetypes d → (at end : ℕ) (c : Column) → at ≡ first_of d.widths a → end ≡ first_of d.widths (a + 1)
+    pub look_found : a < archetypes d → (at end : ℕ) (c : Option ℕ) → at ≡ first_of d.widths a → end ≡ first_of d.widths (a + 1)
         → c ≡ searched (take (end - at) (drop at d.types)) t → held c ≡ looked_up d a t
     unfolding ◌or_else◌ types_of
     look_found h at end c p q s =

@@ -7,6 +7,7 @@ use mathlib.Core.Path.{◌≡◌, sym, ap, ◌∙◌}
 use mathlib.Core.List.{List, [], ◌∷◌}
 use native.Mathlib.Omega.{arith}
 use lib.ListN.{length}
+use Rattle.std.specs.Prelude.{Option, Some}
 use Rattle.refusal.specs.Table.{Rule, ◌when◌, granted, refused, ◌or_else◌, ◌otherwise◌, passing}
 use Rattle.refusal.specs.Laws.{not_refused, passed_all, value_of_lem, past, halted}
 use Rattle.decl.specs.Limits.{max_archetypes}
@@ -17,8 +18,6 @@ use Rattle.decl.specs.Places.{base_of, span_of, spanned, totals_of, measured}
 use Rattle.decl.specs.Steps.{Plain, Settled}
 use Rattle.decl.specs.declared.Span.{Span}
 use Rattle.decl.specs.declared.Totals.{Totals}
-use Rattle.decl.specs.declared.quick.Glance.{Glance}
-use Rattle.decl.specs.declared.quick.Glance.TheVariants.{Clear}
 use Rattle.decl.proofs.Checks.{plain_passes}
 use Rattle.decl.proofs.Keeping.{shaped, declared_shape}
 use Rattle.decl.proofs.Glancing.{Passing, passing_end}
@@ -72,15 +71,15 @@ module _ (d : Decl) where
 
   -- what the quick look settles
   pub settled : {rows bytes : ℕ} → Shaped d → Plain d.widths d.types d.sizes (length d.widths) → rows ≡ first_row d (archetypes d) → bytes ≡ base_of d (archetypes d)
-      → Settled d (Clear (record { rows = rows; bytes = bytes }))
+      → Settled d (Some (record { rows = rows; bytes = bytes }))
   settled g p r b = record { told = measure_told (plain_passes d g p) r b }
 
   pub look_settles : {row column base a : ℕ} {seen sized marks : List ℕ} → Counted d row column base a → Passing d.widths d.types d.sizes seen sized marks column a
       → a ≡ archetypes d → 0 < archetypes d → archetypes d ≤ max_archetypes → length d.widths ≡ archetypes d → width_of d 0 ≡ 0 → length d.types ≡ column → length d.sizes ≡ length d.types
-      → Settled d (Clear (record { rows = row; bytes = base }))
+      → Settled d (Some (record { rows = row; bytes = base }))
   look_settles c w e some few long bare types sizes =
       settled (counted_shape d c e some few long bare types (sizes ∙ types)) (passing_end _ _ _ w c.columns_passed (e ∙ sym long))
       (c.rows_passed ∙ ap (first_row d) e) (c.bytes_passed ∙ ap (base_of d) e)
 
-  pub settles : {r : Glance} {t : Totals} → Settled d r → r ≡ Clear t → granted t ≡ measured d
+  pub settles : {r : Option Totals} {t : Totals} → Settled d r → r ≡ Some t → granted t ≡ measured d
   settles s e = rw e at s.told

@@ -48,9 +48,6 @@ module _ (xs ss ys ts : List ℕ) where
   unfolding two_sizes
   two_false e k l m n = agreeing _ _ _ _ (any_at _ _ (any_at _ _ e k m) l n)
 
-  pub walk_start : Walked xs ss ys ts false 0 0
-  walk_start = record { sizes = λ h. h; types = refl }
-
   module _ (i j : ℕ) where
     -- a type in common, with two sizes
     pub walk_found : i < length xs → j < length ys → get_or xs i 0 ≡ get_or ys j 0 → (get_or ss i 0 ≡ get_or ts j 0 → ⊥) → true ≡ clashing xs ss ys ts

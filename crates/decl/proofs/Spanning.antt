@@ -10,6 +10,7 @@ use native.Mathlib.Omega.{arith}
 use borrow.Author.Tests.{lt-ltb, le-ltb, ltb-false}
 use lib.Dec.{ltb}
 use lib.ListN.{length, get_or, take, drop, length-take}
+use Rattle.std.specs.Prelude.{Option, Some, None}
 use Rattle.refusal.specs.Table.{granted, refused, ◌or_else◌}
 use Rattle.decl.specs.Limits.{max_archetypes, max_columns, max_rows}
 use Rattle.decl.specs.Lists.{first_of, any_below}
@@ -18,7 +19,6 @@ use Rattle.decl.specs.Kept.{Shaped}
 use Rattle.decl.specs.Places.{too_large, outgrown, row_width, base_of, span_of, spanned}
 use Rattle.decl.specs.Steps.{PartAt, Parted}
 use Rattle.decl.specs.declared.Part.{Part}
-use Rattle.decl.specs.declared.Part.TheVariants.{Of, TooLarge}
 use Rattle.decl.proofs.Lists.{or_left, or_right, any_stop, any_false, any_more, part_in_sum}
 use Rattle.decl.proofs.Keeping.{columns_all}
 use Rattle.decl.proofs.Counting.{max_width, Counted, width_told, counted_end, counted_next}
@@ -81,44 +81,44 @@ pub part_bytes : (column w : ℕ) (sizes : List ℕ) {bytes : ℕ} → bytes ≤
 part_bytes column w sizes h k = omega (arith, length-take (column + w - column) (drop column sizes))
 
 -- The part of an archetype, once it has been taken apart.
-module _ {rows widths sizes : List ℕ} {a column : ℕ} {r : Part} (p : Parted rows widths sizes a column r) where
-  part_at : {n w bytes : ℕ} → r ≡ Of n w bytes → PartAt rows widths sizes a column n w bytes
+module _ {rows widths sizes : List ℕ} {a column : ℕ} {r : Option Part} (p : Parted rows widths sizes a column r) where
+  part_at : {p : Part} → r ≡ Some p → PartAt rows widths sizes a column p.rows p.columns p.bytes
   part_at e = rw e at p.told
 
-  pub part_grown : r ≡ TooLarge → too_large (get_or rows a 0) (get_or widths a 0) column (length sizes) ≡ true
+  pub part_grown : r ≡ None → too_large (get_or rows a 0) (get_or widths a 0) column (length sizes) ≡ true
   part_grown e = rw e at p.told
 
   -- what it may be at most
-  pub part_small : {n w bytes : ℕ} → r ≡ Of n w bytes → (n ≤ max_rows) × (w ≤ max_columns) × (n * bytes ≤ max_rows * max_width)
-  part_small {n} e =
+  pub part_small : {p : Part} → r ≡ Some p → (p.rows ≤ max_rows) × (p.columns ≤ max_columns) × (p.rows * p.bytes ≤ max_rows * max_width)
+  part_small {p} e =
       let q = part_at e in
       let f = fitting _ _ _ _ q.fits in
-      let h : n ≤ max_rows = omega (arith, q.rows_are, f.1) in
+      let h : p.rows ≤ max_rows = omega (arith, q.rows_are, f.1) in
       (h, omega (arith, q.columns_are, f.0), mul-le-mul h q.bytes_in)
 
-module _ (d : Decl) {row column base a : ℕ} (c : Counted d row column base a) {r : Part} (p : Parted d.rows d.widths d.sizes a column r) where
+module _ (d : Decl) {row column base a : ℕ} (c : Counted d row column base a) {r : Option Part} (p : Parted d.rows d.widths d.sizes a column r) where
   own_first : column ≡ first_column d a
   unfolding first_column
   own_first = c.columns_passed
 
-  pub own_grown : r ≡ TooLarge → outgrown d a ≡ true
+  pub own_grown : r ≡ None → outgrown d a ≡ true
   own_grown e = rw (← own_first) (part_grown p e)
 
-  module _ {n w bytes : ℕ} (e : r ≡ Of n w bytes) where
+  module _ {s : Part} (e : r ≡ Some s) where
     pub own_fits : any_below a (outgrown d) ≡ false → any_below (a + 1) (outgrown d) ≡ false
     own_fits h = any_more (outgrown d) a h (rw (← own_first) (part_at p e).fits)
 
-    pub own_width : bytes ≡ row_width d a
-    own_width = width_told d a column (column + w) c.columns_passed (counted_end d c (part_at p e).columns_are) (part_at p e).bytes_are
+    pub own_width : s.bytes ≡ row_width d a
+    own_width = width_told d a column (column + s.columns) c.columns_passed (counted_end d c (part_at p e).columns_are) (part_at p e).bytes_are
 
-    pub own_next : Counted d (row + n) (column + w) (base + n * bytes) (a + 1)
+    pub own_next : Counted d (row + s.rows) (column + s.columns) (base + s.rows * s.bytes) (a + 1)
     own_next =
         let q = part_at p e in
         counted_next d c q.rows_are q.columns_are (part_small p e).0 (part_small p e).1 own_width q.bytes_in
 
     -- the archetype that the walk leads to
     pub own_told : a ≤ archetypes d → a ≤ max_archetypes → any_below a (outgrown d) ≡ false
-        → granted (record { row = row; rows = n; column = column; columns = w; base = base; bytes = bytes }) ≡ spanned d a
+        → granted (record { row = row; rows = s.rows; column = column; columns = s.columns; base = base; bytes = s.bytes }) ≡ spanned d a
     own_told h k l =
         let q = part_at p e in
         span_told d a h k (own_fits l) c.rows_passed q.rows_are c.columns_passed q.columns_are c.bytes_passed own_width

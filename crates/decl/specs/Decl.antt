@@ -1,6 +1,7 @@
 -- The declaration: four lent tables, in archetype order, and the part of them that is an archetype's.
 use Rattle.std.specs.Prelude.{ℕ, List, length, get_or}
 use Rattle.decl.specs.Lists.{first_of, part_of}
+use Rattle.decl.specs.declared.Declaration.{Declaration}
 
 -- rows and widths, one an archetype; types and sizes, one a column
 pub record Decl : Type 0 where
@@ -11,6 +12,10 @@ pub record Decl : Type 0 where
 
 abbrev pub decl_of : List ℕ → List ℕ → List ℕ → List ℕ → Decl
 decl_of rows widths types sizes = record { rows = rows; widths = widths; types = types; sizes = sizes }
+
+-- that of the tables lent
+abbrev pub decl_in : Declaration → Decl
+decl_in t = decl_of t.rows.now t.widths.now t.types.now t.sizes.now
 
 -- how many archetypes
 abbrev pub archetypes : Decl → ℕ

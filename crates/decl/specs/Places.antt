@@ -1,17 +1,12 @@
 -- Where archetypes, columns and cells stand in the byte buffer, and the part of each table that is an archetype's.
 use Rattle.std.specs.Prelude.{ℕ, zero, suc, ◌+◌, ◌*◌, Bool, ◌||◌, [], ◌∷◌, ltb, length, take}
-use Rattle.refusal.specs.Number.{number_of}
-use Rattle.refusal.specs.Table.{Answer, granted, refused, ◌when◌, ◌otherwise◌}
+use Rattle.refusal.specs.Table.{Answer, ◌when◌, ◌otherwise◌}
 use Rattle.decl.specs.Limits.{max_archetypes, max_columns, max_rows}
 use Rattle.decl.specs.Lists.{sum, any_below}
 use Rattle.decl.specs.Decl.{Decl, archetypes, rows_of, width_of, first_row, first_column, sizes_of, size_of}
 use Rattle.decl.specs.Rules.{decl_rules}
 use Rattle.decl.specs.declared.Span.{Span}
 use Rattle.decl.specs.declared.Totals.{Totals}
-use Rattle.decl.specs.declared.Measured.{Measured}
-use Rattle.decl.specs.declared.Measured.TheVariants as measures
-use Rattle.decl.specs.declared.Located.{Located}
-use Rattle.decl.specs.declared.Located.TheVariants.{At, Refused}
 
 -- bytes of a row of archetype a
 unfoldable pub row_width : Decl → ℕ → ℕ
@@ -42,11 +37,6 @@ span_of d a =
       bytes = row_width d a;
     }
 
--- the document's number and values of each case
-abbrev pub located_of : Located → Answer Span
-located_of (At s) = granted s
-located_of (Refused r) = refused (number_of r)
-
 -- more rows or columns than an archetype may have, or columns, from `first` on, past the sizes of all
 unfoldable pub too_large : ℕ → ℕ → ℕ → ℕ → Bool
 too_large rows columns first all = ltb max_columns columns || (ltb max_rows rows || ltb all (first + columns))
@@ -66,11 +56,6 @@ spanned d a =
 -- what all archetypes take: their rows and their bytes
 abbrev pub totals_of : Decl → Totals
 totals_of d = record { rows = first_row d (archetypes d); bytes = base_of d (archetypes d) }
-
--- the document's number and values of each case
-abbrev pub measured_of : Measured → Answer Totals
-measured_of (measures.Of t) = granted t
-measured_of (measures.Refused r) = refused (number_of r)
 
 -- Totals: of a declaration that keeps the rules
 unfoldable pub measured : Decl → Answer Totals

@@ -1,6 +1,6 @@
 -- What the private functions promise, beside the rules themselves. No public promise cites it.
 use Prim.{Unit}
-use Rattle.std.specs.Prelude.{ℕ, suc, ◌+◌, ◌-◌, ◌*◌, ◌%◌, ◌^◌, ◌≤◌, ◌<◌, Bool, true, false, not, ◌||◌, ◌≡◌, List, [], ◌∷◌, length, get_or, take, drop}
+use Rattle.std.specs.Prelude.{ℕ, suc, ◌+◌, ◌-◌, ◌*◌, ◌%◌, ◌^◌, ◌≤◌, ◌<◌, Bool, true, false, not, ◌||◌, ◌≡◌, List, [], ◌∷◌, length, get_or, take, drop, Option, Some, None}
 use Rattle.std.specs.Int.Bits.{bit_or}
 use Rattle.refusal.specs.Table.{granted}
 use Rattle.decl.specs.Limits.{max_columns, max_size}
@@ -9,13 +9,8 @@ use Rattle.decl.specs.Decl.{Decl}
 use Rattle.decl.specs.Rules.{two_sizes}
 use Rattle.decl.specs.Places.{too_large, measured}
 use Rattle.decl.specs.declared.Part.{Part}
-use Rattle.decl.specs.declared.Part.TheVariants as parts
-use Rattle.decl.specs.declared.quick.Width.{Width}
-use Rattle.decl.specs.declared.quick.Width.TheVariants as wide
+use Rattle.decl.specs.declared.Totals.{Totals}
 use Rattle.decl.specs.declared.quick.Mark.{Mark}
-use Rattle.decl.specs.declared.quick.Mark.TheVariants as marks
-use Rattle.decl.specs.declared.quick.Glance.{Glance}
-use Rattle.decl.specs.declared.quick.Glance.TheVariants as glances
 
 -- the same types, or a type in common with two sizes
 unfoldable pub clashing : List ℕ → List ℕ → List ℕ → List ℕ → Bool
@@ -44,11 +39,11 @@ pub record PartAt (rows widths sizes : List ℕ) (a column n w bytes : ℕ) : Ty
   pub bytes_are : bytes ≡ sum (take (column + w - column) (drop column sizes))
   pub bytes_in : bytes ≤ 4294967295 * max_columns
 
-abbrev pub PartIs : List ℕ → List ℕ → List ℕ → ℕ → ℕ → Part → Type 0
-PartIs rows widths sizes a column (parts.Of n w bytes) = PartAt rows widths sizes a column n w bytes
-PartIs rows widths sizes a column parts.TooLarge = too_large (get_or rows a 0) (get_or widths a 0) column (length sizes) ≡ true
+abbrev pub PartIs : List ℕ → List ℕ → List ℕ → ℕ → ℕ → Option Part → Type 0
+PartIs rows widths sizes a column (Some p) = PartAt rows widths sizes a column p.rows p.columns p.bytes
+PartIs rows widths sizes a column None = too_large (get_or rows a 0) (get_or widths a 0) column (length sizes) ≡ true
 
-pub record Parted (rows widths sizes : List ℕ) (a column : ℕ) (r : Part) : Type 0 where
+pub record Parted (rows widths sizes : List ℕ) (a column : ℕ) (r : Option Part) : Type 0 where
   pub told : PartIs rows widths sizes a column r
 
 -- The quick look: at the low bits of each type passed, `seen` holds the type and `sized` its size, which is not too large.
@@ -71,11 +66,11 @@ pub record Orderly (types sizes : List ℕ) (from to width : ℕ) : Type 0 where
   pub wide : width ≡ sum (take (to - from) (drop from sizes))
   pub narrow : width ≤ max_size * (to - from)
 
-abbrev pub OrderIs : List ℕ → List ℕ → Width → Type 0
-OrderIs types sizes (wide.Of width) = Orderly types sizes 0 (length types) width
-OrderIs types sizes wide.Unclear = Unit {0}
+abbrev pub OrderIs : List ℕ → List ℕ → Option ℕ → Type 0
+OrderIs types sizes (Some width) = Orderly types sizes 0 (length types) width
+OrderIs types sizes None = Unit {0}
 
-pub record Ordered (types sizes : List ℕ) (r : Width) : Type 0 where
+pub record Ordered (types sizes : List ℕ) (r : Option ℕ) : Type 0 where
   pub told : OrderIs types sizes r
 
 -- the same with their mark, and all columns up to them noted
@@ -84,19 +79,19 @@ pub record MarkAt (types sizes seen sized : List ℕ) (from to m width : ℕ) : 
   pub orderly : Orderly types sizes from to width
   pub marked : m ≡ mark_from 0 (take (to - from) (drop from types))
 
-abbrev pub MarkIs : List ℕ → List ℕ → List ℕ → List ℕ → ℕ → ℕ → Mark → Type 0
-MarkIs types sizes seen sized from to (marks.Of m width) = MarkAt types sizes seen sized from to m width
-MarkIs types sizes seen sized from to marks.Unclear = Unit {0}
+abbrev pub MarkIs : List ℕ → List ℕ → List ℕ → List ℕ → ℕ → ℕ → Option Mark → Type 0
+MarkIs types sizes seen sized from to (Some m) = MarkAt types sizes seen sized from to m.bits m.width
+MarkIs types sizes seen sized from to None = Unit {0}
 
-pub record Marked (types sizes seen sized : List ℕ) (from to : ℕ) (r : Mark) : Type 0 where
+pub record Marked (types sizes seen sized : List ℕ) (from to : ℕ) (r : Option Mark) : Type 0 where
   pub told : MarkIs types sizes seen sized from to r
 
 -- what the quick look settles
-abbrev pub Settles : Decl → Glance → Type 0
-Settles d (glances.Clear t) = granted t ≡ measured d
-Settles d glances.Unclear = Unit {0}
+abbrev pub Settles : Decl → Option Totals → Type 0
+Settles d (Some t) = granted t ≡ measured d
+Settles d None = Unit {0}
 
-pub record Settled (d : Decl) (r : Glance) : Type 0 where
+pub record Settled (d : Decl) (r : Option Totals) : Type 0 where
   pub told : Settles d r
 
 -- the first n archetypes keep the rules on types and sizes

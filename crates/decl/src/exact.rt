@@ -1,70 +1,69 @@
 // The declaration's tests, rule by rule, for what the quick look leaves open.
 ghost use Rattle.std.specs.Prelude.{◌≡◌, true, ◌<◌, ◌≤◌, length};
-ghost use Rattle.refusal.specs.Table.{test_of, passing};
+ghost use Rattle.refusal.specs.Table.{answer_of, passing};
 ghost use Rattle.decl.specs.Lists.{sum, part_of, any_above, rising, any_below, any_pair};
-ghost use Rattle.decl.specs.Decl.{decl_of};
+ghost use Rattle.decl.specs.Decl.{decl_in};
 ghost use Rattle.decl.specs.Rules.{shape_rules, decl_rules};
 ghost use Rattle.decl.specs.Steps.{clashing, falls, clash_at, Risen};
 
-use crate::{ARCHETYPES, COLUMNS, ROWS, SIZE, end_of, total};
-use refusal::{Refusal, Tested};
+use crate::{ARCHETYPES, COLUMNS, Declaration, ROWS, SIZE, end_of, total};
+use refusal::Refusal;
+
+// The types and the sizes of an archetype's columns.
+#[derive(Clone, Copy)]
+struct Columns<'a> {
+    types: &'a [u32],
+    sizes: &'a [u32],
+}
 
 fn any_above(xs: &[u32], max: u32) -> bool
     ensures { result ≡ any_above max xs.now }
 {
-    let mut i = 0;
-    while i < xs.len() {
-        if max < xs[i] {
-            return true;
-        }
-        i += 1;
-    }
-    false
+    xs.iter().any(|&x| max < x)
 }
 
 // The tests on lengths and counts.
-fn shape_tested(rows: &[u32], widths: &[u32], types: &[u32], sizes: &[u32]) -> Tested
-    ensures { test_of result ≡ passing (shape_rules (decl_of rows.now widths.now types.now sizes.now)) }
+fn shape_tested(d: &Declaration<'_>) -> Result<(), Refusal>
+    ensures { answer_of result ≡ passing (shape_rules (decl_in d.now)) }
 {
+    let Declaration {
+        rows,
+        widths,
+        types,
+        sizes,
+    } = *d;
     if rows.len() == 0 {
-        return Tested::Refused(Refusal::BadDeclaration);
+        return Err(Refusal::BadDeclaration);
     }
     if ARCHETYPES < rows.len() {
-        return Tested::Refused(Refusal::BadDeclaration);
+        return Err(Refusal::BadDeclaration);
     }
     if widths.len() != rows.len() {
-        return Tested::Refused(Refusal::BadDeclaration);
+        return Err(Refusal::BadDeclaration);
     }
     if widths[0] != 0 {
-        return Tested::Refused(Refusal::BadDeclaration);
+        return Err(Refusal::BadDeclaration);
     }
     if any_above(widths, COLUMNS) {
-        return Tested::Refused(Refusal::BadDeclaration);
+        return Err(Refusal::BadDeclaration);
     }
     if any_above(rows, ROWS) {
-        return Tested::Refused(Refusal::BadDeclaration);
+        return Err(Refusal::BadDeclaration);
     }
     let columns = total(widths);
     if types.len() != columns {
-        return Tested::Refused(Refusal::BadDeclaration);
+        return Err(Refusal::BadDeclaration);
     }
     if sizes.len() != columns {
-        return Tested::Refused(Refusal::BadDeclaration);
+        return Err(Refusal::BadDeclaration);
     }
-    Tested::Passed
+    Ok(())
 }
 
 fn is_rising(xs: &[u32]) -> bool
     ensures { result ≡ rising xs.now }
 {
-    let mut i = 0;
-    while i + 1 < xs.len() {
-        if xs[i + 1] <= xs[i] {
-            return false;
-        }
-        i += 1;
-    }
-    true
+    xs.is_sorted_by(|x, y| x < y)
 }
 
 // Whether the types of some archetype do not ascend.
@@ -73,24 +72,31 @@ fn any_falls(widths: &[u32], types: &[u32]) -> bool
     ensures { result ≡ any_below (length widths.now) (falls widths.now types.now) }
 {
     let mut at: usize = 0;
-    let mut a = 0;
-    while a < widths.len() {
+    for a in 0..widths.len() {
         let end = end_of(widths, a, at);
         if !is_rising(&types[at..end]) {
             return true;
         }
         at = end;
-        a += 1;
     }
     false
 }
 
 // Whether two archetypes have the same types, or a type in common with two sizes. Both ascend, so one walk in step,
-// each time past the smaller type, meets every type that they share.
-fn clash(xs: &[u32], ss: &[u32], ys: &[u32], ts: &[u32]) -> bool
-    requires { (rising xs.now ≡ true) × (rising ys.now ≡ true) × (length ss.now ≡ length xs.now) × (length ts.now ≡ length ys.now) }
-    ensures { result ≡ clashing xs.now ss.now ys.now ts.now }
+// each time past the smaller type, meets every type that they share. A turn passes a type of the one, of the other or
+// of both, so that neither's types are the sequence of a `for`.
+fn clash(left: &Columns<'_>, right: &Columns<'_>) -> bool
+    requires { (rising left.now.types.now ≡ true) × (rising right.now.types.now ≡ true) × (length left.now.sizes.now ≡ length left.now.types.now) × (length right.now.sizes.now ≡ length right.now.types.now) }
+    ensures { result ≡ clashing left.now.types.now left.now.sizes.now right.now.types.now right.now.sizes.now }
 {
+    let Columns {
+        types: xs,
+        sizes: ss,
+    } = *left;
+    let Columns {
+        types: ys,
+        sizes: ts,
+    } = *right;
     let mut differ = false;
     let mut i = 0;
     let mut j = 0;
@@ -121,65 +127,73 @@ fn clash(xs: &[u32], ss: &[u32], ys: &[u32], ts: &[u32]) -> bool
     j == ys.len()
 }
 
-// Whether archetype b clashes with one before it.
-fn clash_before(
-    widths: &[u32],
-    types: &[u32],
-    sizes: &[u32],
-    ys: &[u32],
-    ts: &[u32],
-    b: usize,
-) -> bool
-    requires risen { Risen widths.now types.now sizes.now }
-    requires b_in_bounds { (b < length widths.now) × (ys.now ≡ part_of widths.now types.now b) × (ts.now ≡ part_of widths.now sizes.now b) }
-    ensures { result ≡ any_below b (λ a. clash_at widths.now types.now sizes.now a b) }
+// Whether archetype b, with columns `own`, clashes with one before it.
+fn clash_before(d: &Declaration<'_>, own: &Columns<'_>, b: usize) -> bool
+    requires risen { Risen d.now.widths.now d.now.types.now d.now.sizes.now }
+    requires b_in_bounds { (b < length d.now.widths.now) × (own.now.types.now ≡ part_of d.now.widths.now d.now.types.now b) × (own.now.sizes.now ≡ part_of d.now.widths.now d.now.sizes.now b) }
+    ensures { result ≡ any_below b (λ a. clash_at d.now.widths.now d.now.types.now d.now.sizes.now a b) }
 {
+    let Declaration {
+        rows: _,
+        widths,
+        types,
+        sizes,
+    } = *d;
     let mut at: usize = 0;
-    let mut a = 0;
-    while a < b {
+    for a in 0..b {
         let end = end_of(widths, a, at);
-        if clash(&types[at..end], &sizes[at..end], ys, ts) {
+        let other = Columns {
+            types: &types[at..end],
+            sizes: &sizes[at..end],
+        };
+        if clash(&other, own) {
             return true;
         }
         at = end;
-        a += 1;
     }
     false
 }
 
 // Whether two archetypes clash: each is compared with those before it, so that no pair is walked twice.
-fn any_clash(widths: &[u32], types: &[u32], sizes: &[u32]) -> bool
-    requires { Risen widths.now types.now sizes.now }
-    ensures { result ≡ any_pair (length widths.now) (clash_at widths.now types.now sizes.now) }
+fn any_clash(d: &Declaration<'_>) -> bool
+    requires { Risen d.now.widths.now d.now.types.now d.now.sizes.now }
+    ensures { result ≡ any_pair (length d.now.widths.now) (clash_at d.now.widths.now d.now.types.now d.now.sizes.now) }
 {
+    let Declaration {
+        rows: _,
+        widths,
+        types,
+        sizes,
+    } = *d;
     let mut at: usize = 0;
-    let mut b = 0;
-    while b < widths.len() {
+    for b in 0..widths.len() {
         let end = end_of(widths, b, at);
-        if clash_before(widths, types, sizes, &types[at..end], &sizes[at..end], b) {
+        let own = Columns {
+            types: &types[at..end],
+            sizes: &sizes[at..end],
+        };
+        if clash_before(d, &own, b) {
             return true;
         }
         at = end;
-        b += 1;
     }
     false
 }
 
-// All the tests of a declaration.
-pub(crate) fn tested(rows: &[u32], widths: &[u32], types: &[u32], sizes: &[u32]) -> Tested
-    ensures { test_of result ≡ passing (decl_rules (decl_of rows.now widths.now types.now sizes.now)) }
+// All the tests of a declaration. Out of line, so that the quick look has the registers to itself.
+#[cold]
+pub(crate) fn tested(d: &Declaration<'_>) -> Result<(), Refusal>
+    ensures { answer_of result ≡ passing (decl_rules (decl_in d.now)) }
 {
-    if let Tested::Refused(r) = shape_tested(rows, widths, types, sizes) {
-        return Tested::Refused(r);
+    shape_tested(d)?;
+    if any_above(d.sizes, SIZE) {
+        return Err(Refusal::BadDeclaration);
     }
-    if any_above(sizes, SIZE) {
-        return Tested::Refused(Refusal::BadDeclaration);
+    if any_falls(d.widths, d.types) {
+        return Err(Refusal::BadDeclaration);
     }
-    if any_falls(widths, types) {
-        return Tested::Refused(Refusal::BadDeclaration);
+    if any_clash(d) {
+        return Err(Refusal::BadDeclaration);
     }
-    if any_clash(widths, types, sizes) {
-        return Tested::Refused(Refusal::BadDeclaration);
-    }
-    Tested::Passed
+    Ok(())
 }

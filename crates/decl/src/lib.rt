@@ -5,17 +5,25 @@ mod exact;
 mod quick;
 
 ghost use Rattle.std.specs.Prelude.{◌≡◌, ℕ, ◌+◌, ◌-◌, ◌*◌, ◌^◌, ◌<◌, ◌≤◌, length, get_or};
-ghost use Rattle.refusal.specs.Table.{test_of, passing};
+ghost use Rattle.refusal.specs.Table.{answer_of, passing};
 ghost use Rattle.decl.specs.Limits.{max_archetypes, max_columns};
 ghost use Rattle.decl.specs.Lists.{sum, first_of};
-ghost use Rattle.decl.specs.Decl.{decl_of};
+ghost use Rattle.decl.specs.Decl.{decl_in};
 ghost use Rattle.decl.specs.Rules.{decl_rules};
-ghost use Rattle.decl.specs.Places.{located_of, spanned, measured_of, measured};
-ghost use Rattle.decl.specs.Lookup.{sought, searched, looked_of, looked_up};
+ghost use Rattle.decl.specs.Places.{spanned, measured};
+ghost use Rattle.decl.specs.Lookup.{sought, searched, looked_up};
 ghost use Rattle.decl.specs.Steps.{Parted};
 
-use quick::{Glance, looked_at};
-use refusal::{Refusal, Tested};
+use refusal::Refusal;
+
+// What a caller lends: the rows and the columns of each archetype, and the type and the size of each column.
+#[derive(Clone, Copy)]
+pub struct Declaration<'a> {
+    pub rows: &'a [u32],
+    pub widths: &'a [u32],
+    pub types: &'a [u32],
+    pub sizes: &'a [u32],
+}
 
 // The part of each table that is an archetype's: its first row and how many, its first column and how many, its first
 // byte, and the bytes of a row.
@@ -29,13 +37,6 @@ pub struct Span {
     pub bytes: usize,
 }
 
-// Where an archetype's part stands, or why the call is refused.
-#[derive(Clone, Copy)]
-pub enum Located {
-    At(Span),
-    Refused(Refusal),
-}
-
 // What all archetypes take: their rows, and their bytes.
 #[derive(Clone, Copy)]
 pub struct Totals {
@@ -43,25 +44,12 @@ pub struct Totals {
     pub bytes: usize,
 }
 
-// What all archetypes take, or why the call is refused.
+// An archetype's rows, columns and bytes of a row.
 #[derive(Clone, Copy)]
-pub enum Measured {
-    Of(Totals),
-    Refused(Refusal),
-}
-
-// Where a type stands among an archetype's types.
-#[derive(Clone, Copy)]
-pub enum Column {
-    At(usize),
-    Missing,
-}
-
-// A column within its archetype, or why the call is refused.
-#[derive(Clone, Copy)]
-pub enum Looked {
-    At(usize),
-    Refused(Refusal),
+struct Part {
+    rows: usize,
+    columns: usize,
+    bytes: usize,
 }
 
 // The limits of a declaration: archetypes, columns an archetype, bytes a component, rows an archetype.
@@ -78,13 +66,14 @@ fn total(xs: &[u32]) -> usize
     requires { length xs.now ≤ 65536 }
     ensures { (result ≡ sum xs.now) × (result ≤ 4294967295 * length xs.now) }
 {
-    let mut sum: usize = 0;
-    let mut k = 0;
-    while k < xs.len() {
-        sum += xs[k] as usize;
-        k += 1;
-    }
-    sum
+    xs.iter().map(|&x| x as usize).sum()
+}
+
+// The number there, or 0 past the end.
+fn at(xs: &[u32], i: usize) -> usize
+    ensures { result ≡ get_or xs.now i 0 }
+{
+    xs.get(i).copied().unwrap_or(0) as usize
 }
 
 // Where archetype a's columns end, of those that begin at `at`.
@@ -95,18 +84,18 @@ fn end_of(widths: &[u32], a: usize, at: usize) -> usize
     at + widths[a] as usize
 }
 
-// A binary search from lo up to, not including, hi.
-fn seek(types: &[u32], kind: u32, lo: usize, hi: usize) -> Column
+// A binary search from lo up to, not including, hi. It calls itself: document 01 demands type lookup in that form.
+fn seek(types: &[u32], kind: u32, lo: usize, hi: usize) -> Option<usize>
     requires { (lo ≤ hi) × (hi ≤ length types.now) }
     ensures { (n : ℕ) → hi - lo ≤ n → result ≡ sought n types.now kind lo hi }
 {
     if hi <= lo {
-        return Column::Missing;
+        return None;
     }
     let middle = lo + (hi - lo) / 2;
     let x = types[middle];
     if x == kind {
-        return Column::At(middle);
+        return Some(middle);
     }
     if x < kind {
         return seek(types, kind, middle + 1, hi);
@@ -115,139 +104,106 @@ fn seek(types: &[u32], kind: u32, lo: usize, hi: usize) -> Column
 }
 
 // The column of a type, by its number, among ascending types.
-pub fn find(types: &[u32], kind: u32) -> Column
+pub fn find(types: &[u32], kind: u32) -> Option<usize>
     ensures { result ≡ searched types.now kind }
 {
     seek(types, kind, 0, types.len())
 }
 
-// Type lookup in an archetype.
-pub fn column_of(
-    rows: &[u32],
-    widths: &[u32],
-    types: &[u32],
-    sizes: &[u32],
-    archetype: usize,
-    kind: u32,
-) -> Looked
-    ensures { looked_of result ≡ looked_up (decl_of rows.now widths.now types.now sizes.now) archetype kind }
-{
-    if let Tested::Refused(r) = tested(rows, widths, types, sizes) {
-        return Looked::Refused(r);
+impl<'a> Declaration<'a> {
+    // Archetype a's part, where its columns begin at `column`; or it has more than there may be.
+    fn part_of(&self, a: usize, column: usize) -> Option<Part>
+        requires { column ≤ max_archetypes * max_columns }
+        ensures { Parted self.now.rows.now self.now.widths.now self.now.sizes.now a column result }
+    {
+        let columns = at(self.widths, a);
+        if (COLUMNS as usize) < columns {
+            return None;
+        }
+        let rows = at(self.rows, a);
+        if (ROWS as usize) < rows {
+            return None;
+        }
+        let end = column + columns;
+        if self.sizes.len() < end {
+            return None;
+        }
+        let bytes = total(&self.sizes[column..end]);
+        Some(Part {
+            rows,
+            columns,
+            bytes,
+        })
     }
-    if rows.len() <= archetype {
-        return Looked::Refused(Refusal::BadPlace);
-    }
-    let at = total(&widths[..archetype]);
-    let end = end_of(widths, archetype, at);
-    let Column::At(j) = find(&types[at..end], kind) else {
-        return Looked::Refused(Refusal::NoComponent);
-    };
-    Looked::At(j)
-}
 
-// The number there, or 0 past the end.
-fn at(xs: &[u32], i: usize) -> usize
-    ensures { result ≡ get_or xs.now i 0 }
-{
-    if i < xs.len() { xs[i] as usize } else { 0 }
-}
-
-// An archetype's rows, columns and bytes of a row; or it has more than there may be.
-#[derive(Clone, Copy)]
-enum Part {
-    Of(usize, usize, usize),
-    TooLarge,
-}
-
-// Archetype a's part, where its columns begin at `column`.
-fn part_of(rows: &[u32], widths: &[u32], sizes: &[u32], a: usize, column: usize) -> Part
-    requires { column ≤ max_archetypes * max_columns }
-    ensures { Parted rows.now widths.now sizes.now a column result }
-{
-    let columns = at(widths, a);
-    if (COLUMNS as usize) < columns {
-        return Part::TooLarge;
-    }
-    let n = at(rows, a);
-    if (ROWS as usize) < n {
-        return Part::TooLarge;
-    }
-    let end = column + columns;
-    if sizes.len() < end {
-        return Part::TooLarge;
-    }
-    Part::Of(n, columns, total(&sizes[column..end]))
-}
-
-// The part of each table that is an archetype's; at the number of archetypes, what all of them take.
-pub fn span_of(
-    rows: &[u32],
-    widths: &[u32],
-    types: &[u32],
-    sizes: &[u32],
-    archetype: usize,
-) -> Located
-    ensures { located_of result ≡ spanned (decl_of rows.now widths.now types.now sizes.now) archetype }
-{
-    if rows.len() < archetype {
-        return Located::Refused(Refusal::BadPlace);
-    }
-    if ARCHETYPES < archetype {
-        return Located::Refused(Refusal::BadDeclaration);
-    }
-    let mut row: usize = 0;
-    let mut column: usize = 0;
-    let mut base: usize = 0;
-    let mut a = 0;
-    while a < archetype {
-        let Part::Of(n, columns, bytes) = part_of(rows, widths, sizes, a, column) else {
-            return Located::Refused(Refusal::BadDeclaration);
+    // The part of each table that is an archetype's; at the number of archetypes, what all of them take.
+    pub fn span_of(&self, archetype: usize) -> Result<Span, Refusal>
+        ensures { answer_of result ≡ spanned (decl_in self.now) archetype }
+    {
+        if self.rows.len() < archetype {
+            return Err(Refusal::BadPlace);
+        }
+        if ARCHETYPES < archetype {
+            return Err(Refusal::BadDeclaration);
+        }
+        let mut row: usize = 0;
+        let mut column: usize = 0;
+        let mut base: usize = 0;
+        for a in 0..archetype {
+            let Some(part) = self.part_of(a, column) else {
+                return Err(Refusal::BadDeclaration);
+            };
+            row += part.rows;
+            column += part.columns;
+            base += part.rows * part.bytes;
+        }
+        let Some(part) = self.part_of(archetype, column) else {
+            return Err(Refusal::BadDeclaration);
         };
-        row += n;
-        column += columns;
-        base += n * bytes;
-        a += 1;
+        Ok(Span {
+            row,
+            rows: part.rows,
+            column,
+            columns: part.columns,
+            base,
+            bytes: part.bytes,
+        })
     }
-    let Part::Of(n, columns, bytes) = part_of(rows, widths, sizes, archetype, column) else {
-        return Located::Refused(Refusal::BadDeclaration);
-    };
-    Located::At(Span {
-        row,
-        rows: n,
-        column,
-        columns,
-        base,
-        bytes,
-    })
-}
 
-// The tests of a declaration, and what all archetypes take. One walk is enough for most that keep the rules; else each
-// rule is tested.
-pub fn totals_of(rows: &[u32], widths: &[u32], types: &[u32], sizes: &[u32]) -> Measured
-    ensures { measured_of result ≡ measured (decl_of rows.now widths.now types.now sizes.now) }
-{
-    if let Glance::Clear(totals) = looked_at(rows, widths, types, sizes) {
-        return Measured::Of(totals);
-    }
-    if let Tested::Refused(r) = exact::tested(rows, widths, types, sizes) {
-        return Measured::Refused(r);
-    }
-    match span_of(rows, widths, types, sizes, rows.len()) {
-        Located::At(all) => Measured::Of(Totals {
+    // The tests of a declaration, and what all archetypes take. One walk is enough for most that keep the rules; else
+    // each rule is tested.
+    pub fn totals(&self) -> Result<Totals, Refusal>
+        ensures { answer_of result ≡ measured (decl_in self.now) }
+    {
+        if let Some(totals) = quick::looked_at(self) {
+            return Ok(totals);
+        }
+        exact::tested(self)?;
+        let all = self.span_of(self.rows.len())?;
+        Ok(Totals {
             rows: all.row,
             bytes: all.base,
-        }),
-        Located::Refused(r) => Measured::Refused(r),
+        })
     }
-}
 
-// All the tests of a declaration.
-pub fn tested(rows: &[u32], widths: &[u32], types: &[u32], sizes: &[u32]) -> Tested
-    ensures { test_of result ≡ passing (decl_rules (decl_of rows.now widths.now types.now sizes.now)) }
-{
-    match totals_of(rows, widths, types, sizes) {
-        Measured::Of(_) => Tested::Passed,
-        Measured::Refused(r) => Tested::Refused(r),
+    // All the tests of a declaration.
+    pub fn tested(&self) -> Result<(), Refusal>
+        ensures { answer_of result ≡ passing (decl_rules (decl_in self.now)) }
+    {
+        self.totals()?;
+        Ok(())
+    }
+
+    // Type lookup in an archetype.
+    pub fn column_of(&self, archetype: usize, kind: u32) -> Result<usize, Refusal>
+        ensures { answer_of result ≡ looked_up (decl_in self.now) archetype kind }
+    {
+        self.tested()?;
+        if self.rows.len() <= archetype {
+            return Err(Refusal::BadPlace);
+        }
+        let at = total(&self.widths[..archetype]);
+        let end = end_of(self.widths, archetype, at);
+        find(&self.types[at..end], kind).ok_or(Refusal::NoComponent)
     }
 }

@@ -1,5 +1,8 @@
 // The cache of candidates: its declaration, its tables, and where they stand at first.
-use id_tables::Head;
+use decl::Declaration;
+use id_tables::{Head, IdTables};
+use row_step::RowTables;
+use store_tables::StoreTables;
 
 pub const COST: u32 = 1;
 
@@ -8,16 +11,23 @@ pub const KEY: u32 = 2;
 pub const VERDICT: u32 = 3;
 
 // Archetypes 0 to 3 hold nothing; a cost; a cost and a key; a cost, a key and a verdict.
-pub const ROWS: [u32; 4] = [4, 4, 6, 6];
+const ROWS: [u32; 4] = [4, 4, 6, 6];
 
-pub const WIDTHS: [u32; 4] = [0, 1, 2, 3];
+const WIDTHS: [u32; 4] = [0, 1, 2, 3];
 
-pub const TYPES: [u32; 6] = [COST, COST, KEY, COST, KEY, VERDICT];
+const TYPES: [u32; 6] = [COST, COST, KEY, COST, KEY, VERDICT];
 
-pub const SIZES: [u32; 6] = [4, 4, 8, 4, 8, 1];
+const SIZES: [u32; 6] = [4, 4, 8, 4, 8, 1];
+
+pub const DECLARATION: Declaration<'static> = Declaration {
+    rows: &ROWS,
+    widths: &WIDTHS,
+    types: &TYPES,
+    sizes: &SIZES,
+};
 
 // What the rows of all archetypes take: 4 × 4 + 6 × 12 + 6 × 13.
-pub const BYTES: usize = 166;
+const BYTES: usize = 166;
 
 #[derive(Clone, Copy)]
 pub struct Cache {
@@ -32,16 +42,38 @@ pub struct Cache {
     pub words: [u64; 6],
 }
 
-pub(crate) fn empty() -> Cache {
-    Cache {
-        head: Head::flushed(0, 0, 0),
-        generations: [0; 8],
-        archetypes: [0; 8],
-        indices: [0; 8],
-        pending: [0; 8],
-        numbers: [0; 20],
-        counts: [0; 4],
-        bytes: [0; BYTES],
-        words: [0; 6],
+impl Cache {
+    pub(crate) fn empty() -> Cache {
+        Cache {
+            head: Head::flushed(0, 0, 0),
+            generations: [0; 8],
+            archetypes: [0; 8],
+            indices: [0; 8],
+            pending: [0; 8],
+            numbers: [0; 20],
+            counts: [0; 4],
+            bytes: [0; BYTES],
+            words: [0; 6],
+        }
+    }
+
+    // All of it, to be read.
+    pub(crate) fn tables(&self) -> StoreTables<'_> {
+        StoreTables {
+            declaration: DECLARATION,
+            ids: IdTables {
+                head: self.head,
+                generations: &self.generations,
+                archetypes: &self.archetypes,
+                indices: &self.indices,
+                pending: &self.pending,
+            },
+            rows: RowTables {
+                numbers: &self.numbers,
+                counts: &self.counts,
+                bytes: &self.bytes,
+            },
+            words: &self.words,
+        }
     }
 }

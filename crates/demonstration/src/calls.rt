@@ -1,260 +1,124 @@
 // The store's calls on the cache. Each says what it answered.
-use crate::cache::{Cache, ROWS, SIZES, TYPES, WIDTHS};
+use crate::cache::{Cache, DECLARATION};
 use crate::say;
 use std::io;
 
 // A candidate with these bytes of its components, in column order.
 pub(crate) fn spawn(
     rt: &impl Print,
-    cache: Cache,
+    cache: &mut Cache,
     archetype: u32,
     run: &[u8],
-) -> io::Result<Cache> {
-    let mut generations = cache.generations;
-    let mut archetypes = cache.archetypes;
-    let mut indices = cache.indices;
-    let pending = cache.pending;
-    let mut numbers = cache.numbers;
-    let mut counts = cache.counts;
-    let mut bytes = cache.bytes;
-    let words = cache.words;
+) -> io::Result<()> {
     let answer = store_spawn::spawn(
-        cache.head,
-        &ROWS,
-        &WIDTHS,
-        &TYPES,
-        &SIZES,
-        &mut generations,
-        &mut archetypes,
-        &mut indices,
-        &pending,
-        &mut numbers,
-        &mut counts,
-        &mut bytes,
-        &words,
+        &mut cache.head,
+        &DECLARATION,
+        &mut cache.generations,
+        &mut cache.archetypes,
+        &mut cache.indices,
+        &cache.pending,
+        &mut cache.numbers,
+        &mut cache.counts,
+        &mut cache.bytes,
+        &cache.words,
         archetype,
         run,
     );
-    Ok(Cache {
-        head: say::given(rt, answer, cache.head)?,
-        generations: generations,
-        archetypes: archetypes,
-        indices: indices,
-        pending: pending,
-        numbers: numbers,
-        counts: counts,
-        bytes: bytes,
-        words: words,
-    })
+    say::given(rt, answer)
 }
 
 // The candidate and its row leave.
-pub(crate) fn despawn(rt: &impl Print, cache: Cache, bits: u64) -> io::Result<Cache> {
-    let mut generations = cache.generations;
-    let mut archetypes = cache.archetypes;
-    let mut indices = cache.indices;
-    let mut pending = cache.pending;
-    let mut numbers = cache.numbers;
-    let mut counts = cache.counts;
-    let mut bytes = cache.bytes;
-    let words = cache.words;
+pub(crate) fn despawn(rt: &impl Print, cache: &mut Cache, bits: u64) -> io::Result<()> {
     let answer = store_despawn::despawn(
-        cache.head,
-        &ROWS,
-        &WIDTHS,
-        &TYPES,
-        &SIZES,
-        &mut generations,
-        &mut archetypes,
-        &mut indices,
-        &mut pending,
-        &mut numbers,
-        &mut counts,
-        &mut bytes,
-        &words,
+        &mut cache.head,
+        &DECLARATION,
+        &mut cache.generations,
+        &mut cache.archetypes,
+        &mut cache.indices,
+        &mut cache.pending,
+        &mut cache.numbers,
+        &mut cache.counts,
+        &mut cache.bytes,
+        &cache.words,
         bits,
     );
-    Ok(Cache {
-        head: say::done(rt, answer, cache.head)?,
-        generations: generations,
-        archetypes: archetypes,
-        indices: indices,
-        pending: pending,
-        numbers: numbers,
-        counts: counts,
-        bytes: bytes,
-        words: words,
-    })
+    say::done(rt, answer)
 }
 
 // The candidate holds this component, with these bytes.
 pub(crate) fn insert(
     rt: &impl Print,
-    cache: Cache,
+    cache: &mut Cache,
     bits: u64,
     kind: u32,
     value: &[u8],
-) -> io::Result<Cache> {
-    let generations = cache.generations;
-    let mut archetypes = cache.archetypes;
-    let mut indices = cache.indices;
-    let pending = cache.pending;
-    let mut numbers = cache.numbers;
-    let mut counts = cache.counts;
-    let mut bytes = cache.bytes;
-    let words = cache.words;
+) -> io::Result<()> {
     let answer = store_insert::insert(
         cache.head,
-        &ROWS,
-        &WIDTHS,
-        &TYPES,
-        &SIZES,
-        &generations,
-        &mut archetypes,
-        &mut indices,
-        &pending,
-        &mut numbers,
-        &mut counts,
-        &mut bytes,
-        &words,
+        &DECLARATION,
+        &cache.generations,
+        &mut cache.archetypes,
+        &mut cache.indices,
+        &cache.pending,
+        &mut cache.numbers,
+        &mut cache.counts,
+        &mut cache.bytes,
+        &cache.words,
         bits,
         kind,
         value,
     );
-    Ok(Cache {
-        head: say::tested(rt, answer, cache.head)?,
-        generations: generations,
-        archetypes: archetypes,
-        indices: indices,
-        pending: pending,
-        numbers: numbers,
-        counts: counts,
-        bytes: bytes,
-        words: words,
-    })
+    say::done(rt, answer)
 }
 
 // The candidate holds this component no longer.
-pub(crate) fn remove(rt: &impl Print, cache: Cache, bits: u64, kind: u32) -> io::Result<Cache> {
-    let generations = cache.generations;
-    let mut archetypes = cache.archetypes;
-    let mut indices = cache.indices;
-    let pending = cache.pending;
-    let mut numbers = cache.numbers;
-    let mut counts = cache.counts;
-    let mut bytes = cache.bytes;
-    let words = cache.words;
+pub(crate) fn remove(rt: &impl Print, cache: &mut Cache, bits: u64, kind: u32) -> io::Result<()> {
     let answer = store_remove::remove(
         cache.head,
-        &ROWS,
-        &WIDTHS,
-        &TYPES,
-        &SIZES,
-        &generations,
-        &mut archetypes,
-        &mut indices,
-        &pending,
-        &mut numbers,
-        &mut counts,
-        &mut bytes,
-        &words,
+        &DECLARATION,
+        &cache.generations,
+        &mut cache.archetypes,
+        &mut cache.indices,
+        &cache.pending,
+        &mut cache.numbers,
+        &mut cache.counts,
+        &mut cache.bytes,
+        &cache.words,
         bits,
         kind,
     );
-    Ok(Cache {
-        head: say::tested(rt, answer, cache.head)?,
-        generations: generations,
-        archetypes: archetypes,
-        indices: indices,
-        pending: pending,
-        numbers: numbers,
-        counts: counts,
-        bytes: bytes,
-        words: words,
-    })
+    say::done(rt, answer)
 }
 
 // Every reserved candidate gets a row, in which it holds nothing.
-pub(crate) fn flush(rt: &impl Print, cache: Cache) -> io::Result<Cache> {
-    let mut generations = cache.generations;
-    let mut archetypes = cache.archetypes;
-    let mut indices = cache.indices;
-    let pending = cache.pending;
-    let mut numbers = cache.numbers;
-    let mut counts = cache.counts;
-    let bytes = cache.bytes;
-    let words = cache.words;
+pub(crate) fn flush(rt: &impl Print, cache: &mut Cache) -> io::Result<()> {
     let answer = store_flush::flush(
-        cache.head,
-        &ROWS,
-        &WIDTHS,
-        &TYPES,
-        &SIZES,
-        &mut generations,
-        &mut archetypes,
-        &mut indices,
-        &pending,
-        &mut numbers,
-        &mut counts,
-        &bytes,
-        &words,
+        &mut cache.head,
+        &DECLARATION,
+        &mut cache.generations,
+        &mut cache.archetypes,
+        &mut cache.indices,
+        &cache.pending,
+        &mut cache.numbers,
+        &mut cache.counts,
+        &cache.bytes,
+        &cache.words,
     );
-    Ok(Cache {
-        head: say::done(rt, answer, cache.head)?,
-        generations: generations,
-        archetypes: archetypes,
-        indices: indices,
-        pending: pending,
-        numbers: numbers,
-        counts: counts,
-        bytes: bytes,
-        words: words,
-    })
+    say::done(rt, answer)
 }
 
 // Three handles, which no other caller gets, before their rows are made.
-pub(crate) fn reserve(rt: &impl Print, cache: Cache) -> io::Result<Cache> {
-    let mut out = [0u64; 3];
-    let generations = cache.generations;
-    let archetypes = cache.archetypes;
-    let indices = cache.indices;
-    let pending = cache.pending;
-    let numbers = cache.numbers;
-    let counts = cache.counts;
-    let bytes = cache.bytes;
-    let words = cache.words;
-    let answer = store_reserve::reserve_entities(
-        cache.head,
-        &ROWS,
-        &WIDTHS,
-        &TYPES,
-        &SIZES,
-        &generations,
-        &archetypes,
-        &indices,
-        &pending,
-        &numbers,
-        &counts,
-        &bytes,
-        &words,
-        3,
-        &mut out,
-    );
-    say::named(rt, out[0])?;
-    say::text(rt, " ")?;
-    say::named(rt, out[1])?;
-    say::text(rt, " ")?;
-    say::named(rt, out[2])?;
-    say::text(rt, ": ")?;
-    Ok(Cache {
-        head: say::done(rt, answer, cache.head)?,
-        generations: generations,
-        archetypes: archetypes,
-        indices: indices,
-        pending: pending,
-        numbers: numbers,
-        counts: counts,
-        bytes: bytes,
-        words: words,
-    })
+pub(crate) fn reserve(rt: &impl Print, cache: &mut Cache) -> io::Result<()> {
+    let mut handles = [0u64; 3];
+    let mut tables = cache.tables();
+    let answer = store_reserve::reserve_entities(&mut tables, 3, &mut handles);
+    cache.head = tables.ids.head;
+    for (i, bits) in handles.iter().enumerate() {
+        if 0 < i {
+            rt.print(" ")?;
+        }
+        say::named(rt, *bits)?;
+    }
+    rt.print(": ")?;
+    say::done(rt, answer)
 }

@@ -1,154 +1,94 @@
 // What a candidate holds, and the table of all candidates.
-use crate::cache::{BYTES, COST, Cache, KEY, ROWS, SIZES, TYPES, VERDICT, WIDTHS};
-use crate::say;
-use id_tables::Found;
+use crate::cache::{COST, Cache, KEY, VERDICT};
+use crate::say::{self, Why};
 use refusal::Refusal;
-use std::io;
-use store_reads::Part;
+use std::{fmt, io};
 
-// What a component says, or why there is none.
+// What the proof of a candidate came to, as its byte says.
 #[derive(Clone, Copy)]
-enum Read {
-    Value(u64),
-    Refused(Refusal),
+pub enum Verdict {
+    Proven = 1,
+    Refuted = 2,
 }
 
-// A byte of a component, or 0 past its end.
-fn byte(bytes: [u8; BYTES], start: usize, size: usize, k: usize) -> u8 {
-    if size <= k {
-        return 0;
+impl From<u64> for Verdict {
+    fn from(byte: u64) -> Verdict {
+        if byte == 1 {
+            Verdict::Proven
+        } else {
+            Verdict::Refuted
+        }
     }
-    if BYTES <= start {
-        return 0;
+}
+
+impl fmt::Display for Verdict {
+    fn fmt<W: fmt::Write>(&self, f: &mut fmt::Formatter<W>) -> fmt::Result {
+        f.write_str(match self {
+            Verdict::Proven => "proven",
+            Verdict::Refuted => "refuted",
+        })
     }
-    if BYTES - start <= k {
-        return 0;
-    }
-    bytes[start + k]
 }
 
 // The first two bytes, little-endian: every number of this program is below 65,536.
-fn value(bytes: [u8; BYTES], start: usize, size: usize) -> u64 {
-    let low = byte(bytes, start, size, 0) as u64;
-    let high = byte(bytes, start, size, 1) as u64;
+fn value(bytes: &[u8]) -> u64 {
+    let low = bytes.first().copied().unwrap_or(0) as u64;
+    let high = bytes.get(1).copied().unwrap_or(0) as u64;
     high << 8 | low
 }
 
-fn reading(cache: Cache, bits: u64, kind: u32) -> Read {
-    let generations = cache.generations;
-    let archetypes = cache.archetypes;
-    let indices = cache.indices;
-    let pending = cache.pending;
-    let numbers = cache.numbers;
-    let counts = cache.counts;
-    let bytes = cache.bytes;
-    let words = cache.words;
-    match store_reads::read(
-        cache.head,
-        &ROWS,
-        &WIDTHS,
-        &TYPES,
-        &SIZES,
-        &generations,
-        &archetypes,
-        &indices,
-        &pending,
-        &numbers,
-        &counts,
-        &bytes,
-        &words,
-        bits,
-        kind,
-    ) {
-        Part::At(start, size) => Read::Value(value(bytes, start, size)),
-        Part::Refused(r) => Read::Refused(r),
-    }
-}
-
-fn place(cache: Cache, bits: u64) -> Found {
-    let generations = cache.generations;
-    let archetypes = cache.archetypes;
-    let indices = cache.indices;
-    let pending = cache.pending;
-    let numbers = cache.numbers;
-    let counts = cache.counts;
-    let bytes = cache.bytes;
-    let words = cache.words;
-    store_reads::get(
-        cache.head,
-        &ROWS,
-        &WIDTHS,
-        &TYPES,
-        &SIZES,
-        &generations,
-        &archetypes,
-        &indices,
-        &pending,
-        &numbers,
-        &counts,
-        &bytes,
-        &words,
-        bits,
-    )
-}
-
-fn word_of(rt: &impl Print, verdict: u64) -> io::Result<()> {
-    if verdict == 1 {
-        say::text(rt, "proven")
-    } else {
-        say::text(rt, "refuted")
-    }
+// What a component says, or why there is none.
+fn reading(cache: &Cache, bits: u64, kind: u32) -> Result<u64, Refusal> {
+    let tables = cache.tables();
+    store_reads::read(&tables, bits, kind)?;
+    Ok(value(store_reads::read_bytes(&tables, bits, kind)))
 }
 
 // The verdict in a word, or the refusal of the read.
-pub(crate) fn verdict(rt: &impl Print, cache: Cache, bits: u64) -> io::Result<()> {
+pub(crate) fn verdict_of(rt: &impl Print, cache: &Cache, bits: u64) -> io::Result<()> {
     match reading(cache, bits, VERDICT) {
-        Read::Value(v) => word_of(rt, v)?,
-        Read::Refused(r) => say::refused(rt, r)?,
+        Ok(byte) => rt.println(Verdict::from(byte)),
+        Err(refusal) => rt.println(Why(refusal)),
     }
-    say::text(rt, "\n")
 }
 
 // A cost or a key, or the refusal of the read.
-pub(crate) fn component(rt: &impl Print, cache: Cache, bits: u64, kind: u32) -> io::Result<()> {
+pub(crate) fn component(rt: &impl Print, cache: &Cache, bits: u64, kind: u32) -> io::Result<()> {
     match reading(cache, bits, kind) {
-        Read::Value(v) => say::number(rt, v)?,
-        Read::Refused(r) => say::refused(rt, r)?,
+        Ok(number) => rt.println(number),
+        Err(refusal) => rt.println(Why(refusal)),
     }
-    say::text(rt, "\n")
 }
 
 // A label and the number, where the component is held.
-fn held(rt: &impl Print, cache: Cache, bits: u64, kind: u32, label: &str) -> io::Result<()> {
-    if let Read::Value(v) = reading(cache, bits, kind) {
-        say::text(rt, label)?;
-        say::number(rt, v)?;
+fn held(rt: &impl Print, cache: &Cache, bits: u64, kind: u32, label: &str) -> io::Result<()> {
+    if let Ok(number) = reading(cache, bits, kind) {
+        print!(rt; "  {label} {number}")?;
     }
     Ok(())
 }
 
-fn placed(rt: &impl Print, cache: Cache, bits: u64) -> io::Result<()> {
-    match place(cache, bits) {
-        Found::At(place) => {
-            say::text(rt, "  archetype ")?;
-            say::number(rt, place.archetype as u64)?;
-            say::text(rt, "  row ")?;
-            say::number(rt, place.index.0 as u64)
+fn placed(rt: &impl Print, cache: &Cache, bits: u64) -> io::Result<()> {
+    match store_reads::get(&cache.tables(), bits) {
+        Ok(place) => {
+            let archetype = place.archetype;
+            let row = place.index.0;
+            print!(rt; "  archetype {archetype}  row {row}")
         }
-        Found::Refused(r) => say::refused(rt, r),
+        Err(refusal) => rt.print(Why(refusal)),
     }
 }
 
 // A line of the table: the candidate, its place, and what it holds.
-pub(crate) fn candidate(rt: &impl Print, cache: Cache, bits: u64) -> io::Result<()> {
-    say::text(rt, "  ")?;
+pub(crate) fn candidate(rt: &impl Print, cache: &Cache, bits: u64) -> io::Result<()> {
+    rt.print("  ")?;
     say::named(rt, bits)?;
     placed(rt, cache, bits)?;
-    held(rt, cache, bits, COST, "  cost ")?;
-    held(rt, cache, bits, KEY, "  key ")?;
-    if let Read::Value(v) = reading(cache, bits, VERDICT) {
-        say::text(rt, "  ")?;
-        word_of(rt, v)?;
+    held(rt, cache, bits, COST, "cost")?;
+    held(rt, cache, bits, KEY, "key")?;
+    if let Ok(byte) = reading(cache, bits, VERDICT) {
+        let verdict = Verdict::from(byte);
+        print!(rt; "  {verdict}")?;
     }
-    say::text(rt, "\n")
+    rt.println("")
 }

@@ -1,2 +1,3 @@
 -- Laws of column calls that have crossed.
+pub mod Moved
 pub mod Determined

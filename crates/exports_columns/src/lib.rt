@@ -1,78 +1,16 @@
-// What another language links of columns. Every call answers the refusal's number, 0 where it is granted.
+// What another language links of columns. Every call answers the refusal's number, 0 where it is granted. Each takes its tables as slices side by side: C lends them so.
 #![tactic(auto)]
 
-ghost use Rattle.std.specs.Prelude.{◌≡◌};
 ghost use Rattle.decl.specs.Decl.{decl_of};
-ghost use Rattle.decl.specs.Lookup.{looked_up, looked_of};
+ghost use Rattle.decl.specs.Lookup.{looked_up};
 ghost use Rattle.row_step.specs.Tables.{tables_of};
-ghost use Rattle.columns.specs.Calls.{allocated_in, removed_in, moved_out, put_in, got_in, ids_in, allocated_of, removed_of, stored_of, found_of};
-ghost use Rattle.crossing.specs.Answers.{Told, Crossed, Passed, code_of, number_four, maybe_four, part_four};
+ghost use Rattle.columns.specs.Calls.{allocated_in, removed_in, moved_out, put_in, got_in, ids_in};
+ghost use Rattle.crossing.specs.Answers.{Told, Crossed, Passed, number_four, maybe_four, part_four};
 
-use columns::{Allocated, Found, Removed, Stored};
-use crossing::{refuse, store};
-use decl::Looked;
+use crossing::{code, cross};
+use decl::Declaration;
 use handle::{Number, Row};
-
-fn allocated(out: &mut [u64; 4], answer: Allocated) -> u32
-    ensures { Told number_four (allocated_of answer) result out.new }
-{
-    match answer {
-        Allocated::Refused(r) => refuse(out, r),
-        Allocated::At(row) => {
-            store(out, row.0 as u64, 0, 0);
-            0
-        }
-    }
-}
-
-fn removed(out: &mut [u64; 4], answer: Removed) -> u32
-    ensures { Told maybe_four (removed_of answer) result out.new }
-{
-    match answer {
-        Removed::Refused(r) => refuse(out, r),
-        Removed::Last => {
-            store(out, 0, 0, 0);
-            0
-        }
-        Removed::Moved(number) => {
-            store(out, 1, number.0 as u64, 0);
-            0
-        }
-    }
-}
-
-fn stored(answer: Stored) -> u32
-    ensures { result ≡ code_of (stored_of answer) }
-{
-    match answer {
-        Stored::Refused(r) => r.number(),
-        Stored::Done => 0,
-    }
-}
-
-fn part(out: &mut [u64; 4], answer: Found) -> u32
-    ensures { Told part_four (found_of answer) result out.new }
-{
-    match answer {
-        Found::Refused(r) => refuse(out, r),
-        Found::At(start, length) => {
-            store(out, start as u64, length as u64, 0);
-            0
-        }
-    }
-}
-
-fn looked(out: &mut [u64; 4], answer: Looked) -> u32
-    ensures { Told number_four (looked_of answer) result out.new }
-{
-    match answer {
-        Looked::Refused(r) => refuse(out, r),
-        Looked::At(column) => {
-            store(out, column as u64, 0, 0);
-            0
-        }
-    }
-}
+use row_step::RowTables;
 
 // hecs's `allocate`: the number goes into the first unused row. Out: the row.
 pub fn verdict_columns_allocate(
@@ -87,20 +25,28 @@ pub fn verdict_columns_allocate(
     number: u32,
     out: &mut [u64; 4],
 ) -> u32
-    ensures { Crossed number_four (allocated_in (decl_of rows.now widths.now types.now sizes.now) (tables_of numbers.old counts.old bytes.now) archetype number) (tables_of numbers.old counts.old bytes.now) result out.new (tables_of numbers.new counts.new bytes.now) }
+    ensures { let d = decl_of rows.now widths.now types.now sizes.now in
+        let lent = tables_of numbers.old counts.old bytes.now in
+        let left = tables_of numbers.new counts.new bytes.now in
+        Crossed number_four (allocated_in d lent archetype number) lent result out.new left }
 {
-    let answer = columns::allocate(
+    let declaration = Declaration {
         rows,
         widths,
         types,
         sizes,
-        numbers,
-        counts,
-        bytes,
-        archetype as usize,
-        Number(number),
-    );
-    allocated(out, answer)
+    };
+    cross(
+        out,
+        columns::allocate(
+            &declaration,
+            numbers,
+            counts,
+            bytes,
+            archetype as usize,
+            Number(number),
+        ),
+    )
 }
 
 // hecs's `remove`: the last row takes the place of the one that is removed. Out: 0, or 1 and the number that moved.
@@ -116,20 +62,28 @@ pub fn verdict_columns_remove(
     row: u32,
     out: &mut [u64; 4],
 ) -> u32
-    ensures { Crossed maybe_four (removed_in (decl_of rows.now widths.now types.now sizes.now) (tables_of numbers.old counts.old bytes.old) archetype row) (tables_of numbers.old counts.old bytes.old) result out.new (tables_of numbers.new counts.new bytes.new) }
+    ensures { let d = decl_of rows.now widths.now types.now sizes.now in
+        let lent = tables_of numbers.old counts.old bytes.old in
+        let left = tables_of numbers.new counts.new bytes.new in
+        Crossed maybe_four (removed_in d lent archetype row) lent result out.new left }
 {
-    let answer = columns::remove(
+    let declaration = Declaration {
         rows,
         widths,
         types,
         sizes,
-        numbers,
-        counts,
-        bytes,
-        archetype as usize,
-        Row(row),
-    );
-    removed(out, answer)
+    };
+    cross(
+        out,
+        columns::remove(
+            &declaration,
+            numbers,
+            counts,
+            bytes,
+            archetype as usize,
+            Row(row),
+        ),
+    )
 }
 
 // hecs's `move_to`: the row's bytes in column order into `taken`, then as `remove`. Out: 0, or 1 and the number that moved.
@@ -146,21 +100,29 @@ pub fn verdict_columns_move_out(
     row: u32,
     out: &mut [u64; 4],
 ) -> u32
-    ensures { Crossed maybe_four (moved_out (decl_of rows.now widths.now types.now sizes.now) (tables_of numbers.old counts.old bytes.old) taken.old archetype row) ((tables_of numbers.old counts.old bytes.old), taken.old) result out.new ((tables_of numbers.new counts.new bytes.new), taken.new) }
+    ensures { let d = decl_of rows.now widths.now types.now sizes.now in
+        let lent = tables_of numbers.old counts.old bytes.old in
+        let left = tables_of numbers.new counts.new bytes.new in
+        Crossed maybe_four (moved_out d lent taken.old archetype row) (lent, taken.old) result out.new (left, taken.new) }
 {
-    let answer = columns::move_out(
+    let declaration = Declaration {
         rows,
         widths,
         types,
         sizes,
-        numbers,
-        counts,
-        bytes,
-        taken,
-        archetype as usize,
-        Row(row),
-    );
-    removed(out, answer)
+    };
+    cross(
+        out,
+        columns::move_out(
+            &declaration,
+            numbers,
+            counts,
+            bytes,
+            taken,
+            archetype as usize,
+            Row(row),
+        ),
+    )
 }
 
 // hecs's `put_dynamic`: component bytes stored in a row.
@@ -177,13 +139,19 @@ pub fn verdict_columns_put(
     kind: u32,
     value: &[u8],
 ) -> u32
-    ensures { Passed (put_in (decl_of rows.now widths.now types.now sizes.now) (tables_of numbers.now counts.now bytes.old) archetype row kind value.now) (tables_of numbers.now counts.now bytes.old) result (tables_of numbers.now counts.now bytes.new) }
+    ensures { let d = decl_of rows.now widths.now types.now sizes.now in
+        let lent = tables_of numbers.now counts.now bytes.old in
+        let left = tables_of numbers.now counts.now bytes.new in
+        Passed (put_in d lent archetype row kind value.now) lent result left }
 {
-    let answer = columns::put(
+    let declaration = Declaration {
         rows,
         widths,
         types,
         sizes,
+    };
+    code(columns::put(
+        &declaration,
         numbers,
         counts,
         bytes,
@@ -191,8 +159,7 @@ pub fn verdict_columns_put(
         Row(row),
         kind,
         value,
-    );
-    stored(answer)
+    ))
 }
 
 // hecs's `get_dynamic`. Out: where the component's bytes are, start and length.
@@ -209,21 +176,25 @@ pub fn verdict_columns_get(
     kind: u32,
     out: &mut [u64; 4],
 ) -> u32
-    ensures { Told part_four (got_in (decl_of rows.now widths.now types.now sizes.now) (tables_of numbers.now counts.now bytes.now) archetype row kind) result out.new }
+    ensures { let d = decl_of rows.now widths.now types.now sizes.now in
+        let lent = tables_of numbers.now counts.now bytes.now in
+        Told part_four (got_in d lent archetype row kind) result out.new }
 {
-    let answer = columns::get(
+    let declaration = Declaration {
         rows,
         widths,
         types,
         sizes,
+    };
+    let tables = RowTables {
         numbers,
         counts,
         bytes,
-        archetype as usize,
-        Row(row),
-        kind,
-    );
-    part(out, answer)
+    };
+    cross(
+        out,
+        columns::get(&declaration, &tables, archetype as usize, Row(row), kind),
+    )
 }
 
 // hecs's `ids`. Out: where the archetype's row numbers are, start and count.
@@ -238,19 +209,22 @@ pub fn verdict_columns_ids(
     archetype: u32,
     out: &mut [u64; 4],
 ) -> u32
-    ensures { Told part_four (ids_in (decl_of rows.now widths.now types.now sizes.now) (tables_of numbers.now counts.now bytes.now) archetype) result out.new }
+    ensures { let d = decl_of rows.now widths.now types.now sizes.now in
+        let lent = tables_of numbers.now counts.now bytes.now in
+        Told part_four (ids_in d lent archetype) result out.new }
 {
-    let answer = columns::ids(
+    let declaration = Declaration {
         rows,
         widths,
         types,
         sizes,
+    };
+    let tables = RowTables {
         numbers,
         counts,
         bytes,
-        archetype as usize,
-    );
-    part(out, answer)
+    };
+    cross(out, columns::ids(&declaration, &tables, archetype as usize))
 }
 
 // Type lookup. Out: the column within the archetype.
@@ -263,8 +237,14 @@ pub fn verdict_columns_lookup(
     kind: u32,
     out: &mut [u64; 4],
 ) -> u32
-    ensures { Told number_four (looked_up (decl_of rows.now widths.now types.now sizes.now) archetype kind) result out.new }
+    ensures { let d = decl_of rows.now widths.now types.now sizes.now in
+        Told number_four (looked_up d archetype kind) result out.new }
 {
-    let answer = decl::column_of(rows, widths, types, sizes, archetype as usize, kind);
-    looked(out, answer)
+    let declaration = Declaration {
+        rows,
+        widths,
+        types,
+        sizes,
+    };
+    cross(out, declaration.column_of(archetype as usize, kind))
 }

@@ -21,7 +21,10 @@ pub extern "C" fn verdict_columns_allocate(
     number: u32,
     out: &mut [u64; 4],
 ) -> u32
-    ensures { Crossed number_four (allocated_in (decl_of rows.now widths.now types.now sizes.now) (tables_of numbers.old counts.old bytes.now) archetype number) (tables_of numbers.old counts.old bytes.now) result out.new (tables_of numbers.new counts.new bytes.now) }
+    ensures { let d = decl_of rows.now widths.now types.now sizes.now in
+        let lent = tables_of numbers.old counts.old bytes.now in
+        let left = tables_of numbers.new counts.new bytes.now in
+        Crossed number_four (allocated_in d lent archetype number) lent result out.new left }
 {
     exports_columns::verdict_columns_allocate(
         rows, widths, types, sizes, numbers, counts, bytes, archetype, number, out,
@@ -42,7 +45,10 @@ pub extern "C" fn verdict_columns_remove(
     row: u32,
     out: &mut [u64; 4],
 ) -> u32
-    ensures { Crossed maybe_four (removed_in (decl_of rows.now widths.now types.now sizes.now) (tables_of numbers.old counts.old bytes.old) archetype row) (tables_of numbers.old counts.old bytes.old) result out.new (tables_of numbers.new counts.new bytes.new) }
+    ensures { let d = decl_of rows.now widths.now types.now sizes.now in
+        let lent = tables_of numbers.old counts.old bytes.old in
+        let left = tables_of numbers.new counts.new bytes.new in
+        Crossed maybe_four (removed_in d lent archetype row) lent result out.new left }
 {
     exports_columns::verdict_columns_remove(
         rows, widths, types, sizes, numbers, counts, bytes, archetype, row, out,
@@ -64,7 +70,10 @@ pub extern "C" fn verdict_columns_move_out(
     row: u32,
     out: &mut [u64; 4],
 ) -> u32
-    ensures { Crossed maybe_four (moved_out (decl_of rows.now widths.now types.now sizes.now) (tables_of numbers.old counts.old bytes.old) taken.old archetype row) ((tables_of numbers.old counts.old bytes.old), taken.old) result out.new ((tables_of numbers.new counts.new bytes.new), taken.new) }
+    ensures { let d = decl_of rows.now widths.now types.now sizes.now in
+        let lent = tables_of numbers.old counts.old bytes.old in
+        let left = tables_of numbers.new counts.new bytes.new in
+        Crossed maybe_four (moved_out d lent taken.old archetype row) (lent, taken.old) result out.new (left, taken.new) }
 {
     exports_columns::verdict_columns_move_out(
         rows, widths, types, sizes, numbers, counts, bytes, taken, archetype, row, out,
@@ -86,7 +95,10 @@ pub extern "C" fn verdict_columns_put(
     kind: u32,
     value: &[u8],
 ) -> u32
-    ensures { Passed (put_in (decl_of rows.now widths.now types.now sizes.now) (tables_of numbers.now counts.now bytes.old) archetype row kind value.now) (tables_of numbers.now counts.now bytes.old) result (tables_of numbers.now counts.now bytes.new) }
+    ensures { let d = decl_of rows.now widths.now types.now sizes.now in
+        let lent = tables_of numbers.now counts.now bytes.old in
+        let left = tables_of numbers.now counts.now bytes.new in
+        Passed (put_in d lent archetype row kind value.now) lent result left }
 {
     exports_columns::verdict_columns_put(
         rows, widths, types, sizes, numbers, counts, bytes, archetype, row, kind, value,
@@ -108,7 +120,9 @@ pub extern "C" fn verdict_columns_get(
     kind: u32,
     out: &mut [u64; 4],
 ) -> u32
-    ensures { Told part_four (got_in (decl_of rows.now widths.now types.now sizes.now) (tables_of numbers.now counts.now bytes.now) archetype row kind) result out.new }
+    ensures { let d = decl_of rows.now widths.now types.now sizes.now in
+        let lent = tables_of numbers.now counts.now bytes.now in
+        Told part_four (got_in d lent archetype row kind) result out.new }
 {
     exports_columns::verdict_columns_get(
         rows, widths, types, sizes, numbers, counts, bytes, archetype, row, kind, out,
@@ -128,7 +142,9 @@ pub extern "C" fn verdict_columns_ids(
     archetype: u32,
     out: &mut [u64; 4],
 ) -> u32
-    ensures { Told part_four (ids_in (decl_of rows.now widths.now types.now sizes.now) (tables_of numbers.now counts.now bytes.now) archetype) result out.new }
+    ensures { let d = decl_of rows.now widths.now types.now sizes.now in
+        let lent = tables_of numbers.now counts.now bytes.now in
+        Told part_four (ids_in d lent archetype) result out.new }
 {
     exports_columns::verdict_columns_ids(
         rows, widths, types, sizes, numbers, counts, bytes, archetype, out,
@@ -146,7 +162,8 @@ pub extern "C" fn verdict_columns_lookup(
     kind: u32,
     out: &mut [u64; 4],
 ) -> u32
-    ensures { Told number_four (looked_up (decl_of rows.now widths.now types.now sizes.now) archetype kind) result out.new }
+    ensures { let d = decl_of rows.now widths.now types.now sizes.now in
+        Told number_four (looked_up d archetype kind) result out.new }
 {
     exports_columns::verdict_columns_lookup(rows, widths, types, sizes, archetype, kind, out)
 }

@@ -1,21 +1,17 @@
--- A walking state, a span, a word in place and a handle's halves as they cross.
+-- A walking state, and the head that a call leaves, as they cross.
 -- Assumes nothing.
-use Prim.{Unit}
 use Prim.Native.Nat.{ℕ}
-use mathlib.Core.Path.{◌≡◌, refl, ap, ◌∙◌}
+use mathlib.Core.Path.{◌≡◌, refl, sym, ap, ◌∙◌}
 use mathlib.Core.List.{List}
 use lib.ListN.{get_or}
-use Rattle.refusal.specs.Table.{Answer, granted, refused, Did}
+use Rattle.refusal.specs.Table.{Answer, left_of, Did}
 use Rattle.id_tables.specs.declared.head.Head.{Head}
 use Rattle.id_tables.specs.Ids.{Ids, ids_of}
+use Rattle.id_tables.proofs.Heads.{HeadOnly}
 use Rattle.id_batches.specs.declared.many.AllocManyState.{AllocManyState}
 use Rattle.id_batches.specs.AllocMany.{state_of}
-use Rattle.id_readers.specs.Reader.{reserving_part, span_in, no_span, given}
-use Rattle.crossing.specs.Answers.{Told, Crossed, Passed, four, number_four, code_of}
-use Rattle.crossing.proofs.Telling.{crossed, told_granted}
-use Rattle.exports_ids.specs.Span.{span_four, with_span, reserving_span}
+use Rattle.crossing.specs.Answers.{Told, Crossed, Passed, code_of}
 use Rattle.exports_ids.specs.State.{state_four, state_in}
-use Rattle.exports_ids.specs.Words.{in_place}
 
 pub state_back : (w : AllocManyState) → state_in (state_four w) ≡ w
 unfolding state_in
@@ -25,28 +21,21 @@ pub state_read : (ws : List ℕ) → state_of (get_or ws 0 0) (get_or ws 1 0) (g
 unfolding state_in
 state_read ws = refl
 
-pub crossed_state : {A : Type 0} {values : A → List ℕ} {rule : Answer (A × AllocManyState)} {lent w w' : AllocManyState} {said : Answer A} {code : ℕ} {out : List ℕ}
-    → Did rule lent said w → Told values said code out → w' ≡ w → Crossed values rule lent code out w'
-crossed_state d t e = rw e (crossed d t)
+-- a call that changes nothing of the tables but their head, and whose head and answer have crossed
+module _ {A : Type 0} {s left : Ids} {said : Answer A} {h : Head} {rule : Answer (A × Ids)} (only : HeadOnly s (left_of rule s)) (d : Did rule s said left) (e : h ≡ left.head) where
+  heads : ids_of h s.generations s.archetypes s.indices s.pending ≡ left_of rule s
+  heads = let k : HeadOnly s left = rw d.leaves only in rw e (sym k ∙ d.leaves)
 
--- a count, which is always granted
-pub told_count : {n m : ℕ} {out : List ℕ} → out ≡ number_four n → n ≡ m → Told number_four (granted m) 0 out
-told_count o e = told_granted refl (rw (← e) o)
+  pub crossed_head : {values : A → List ℕ} {code : ℕ} {out : List ℕ} → Told values said code out → Crossed values rule s code out (ids_of h s.generations s.archetypes s.indices s.pending)
+  crossed_head t = record { told = rw (← d.answer) t; leaves = heads }
 
--- a reservation whose span has crossed
-span_crossed : {S : Type 0} (rule : Answer (Unit {0} × S)) (v : ℕ × ℕ × ℕ × ℕ) {lent left : S} {said : Answer (Unit {0})} {w : ℕ × ℕ × ℕ × ℕ} {code : ℕ} {out : List ℕ}
-    → Did rule lent said left → w ≡ given rule v no_span → code ≡ code_of said → out ≡ span_four w → Crossed span_four (with_span rule v) lent code out left
-span_crossed (granted x) v d e c o = record { told = record { code_is = c ∙ ap code_of d.answer; out_is = o ∙ ap span_four e }; leaves = d.leaves }
-span_crossed (refused n) v d e c o = record { told = record { code_is = c ∙ ap code_of d.answer; out_is = o ∙ ap span_four e }; leaves = d.leaves }
+  pub passed_head : {code : ℕ} → code ≡ code_of said → Passed rule s code (ids_of h s.generations s.archetypes s.indices s.pending)
+  passed_head t = record { code_is = rw (← d.answer) t; leaves = heads }
 
-pub crossed_span : (s : Ids) (n : ℕ) {g a x p : List ℕ} {h h' : Head} {said : Answer (Unit {0})} {v : ℕ × ℕ × ℕ × ℕ} {code : ℕ} {out : List ℕ}
-    → Did (reserving_part s n) s said (ids_of h g a x p) → v ≡ given (reserving_part s n) (span_in s n) no_span → code ≡ code_of said → h' ≡ h → out ≡ span_four v
-    → Crossed span_four (reserving_span s n) s code out (ids_of h' g a x p)
-unfolding reserving_span
-crossed_span s n d e c f o = rw f (span_crossed (reserving_part s n) (span_in s n) d e c o)
-
-pub repassed : {a b : Answer ℕ} {w w' code : ℕ} → a ≡ b → Passed (in_place a) w code w' → Passed (in_place b) w code w'
-repassed e p = rw (← e) p
-
-pub halves_are : {a b n g : ℕ} {out : List ℕ} → a ≡ n → b ≡ g → out ≡ four a b 0 0 → out ≡ four n g 0 0
-halves_are e f o = rw (← e, ← f) o
+-- and the same beside an output of handles
+pub passed_head_out : {A : Type 0} {s left : Ids} {o o' : List ℕ} {said : Answer A} {code : ℕ} {h : Head} (rule : Answer (A × (Ids × List ℕ))) → HeadOnly s (left_of rule (s, o)).0
+    → Did rule (s, o) said (left, o') → h ≡ left.head → code ≡ code_of said → Passed rule (s, o) code (ids_of h s.generations s.archetypes s.indices s.pending, o')
+passed_head_out {s = s} {left = left} {o = o} rule only d e t =
+    let tables : left ≡ (left_of rule (s, o)).0 = ap (λ (x : Ids × List ℕ). x.0) d.leaves in
+    let k : HeadOnly s left = rw tables only in
+    record { code_is = rw (← d.answer) t; leaves = rw (e, ← k) d.leaves }

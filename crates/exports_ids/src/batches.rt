@@ -1,7 +1,7 @@
 // The id calls on n numbers that another language links.
-ghost use Rattle.std.specs.Prelude.{◌≡◌};
+ghost use Rattle.refusal.specs.Table.{answer_of};
 ghost use Rattle.id_batches.specs.Reserve.{reserving};
-ghost use Rattle.id_batches.specs.AllocMany.{allocating_many, alloced_of, head_after_many};
+ghost use Rattle.id_batches.specs.AllocMany.{allocating_many};
 ghost use Rattle.id_batches.specs.Flush.{flushing};
 ghost use Rattle.id_batches.specs.Freelist.{listing};
 ghost use Rattle.exports_ids.specs.State.{state_four};
@@ -9,23 +9,24 @@ ghost use Rattle.crossing.specs.Answers.{Told, Crossed, Passed, number_four};
 ghost use Rattle.id_tables.specs.Ids.{ids_of};
 ghost use Rattle.crossing.specs.Words.{head_of};
 
-use crossing::{counted, done, head_of, put_head};
+use crate::tables::lent;
+use crossing::{code, cross, head_of, put_head};
 use handle::Row;
-use id_batches::AllocedMany;
+use id_batches::AllocManyState;
+use refusal::Refusal;
 
 // A walking state as four numbers: position, top, number, end.
-fn alloced_many(words: &mut [u64; 4], out: &mut [u32; 4], answer: AllocedMany) -> u32
-    ensures { (Told state_four (alloced_of answer) result out.new) × (head_of words.new ≡ head_after_many (head_of words.old) answer) }
+fn alloced_many(out: &mut [u32; 4], answer: Result<AllocManyState, Refusal>) -> u32
+    ensures { Told state_four (answer_of answer) result out.new }
 {
     match answer {
-        AllocedMany::Refused(r) => {
-            *out = [0, 0, 0, 0];
-            r.number()
-        }
-        AllocedMany::Granted(head, state) => {
-            put_head(words, head);
+        Ok(state) => {
             *out = [state.position, state.top, state.number, state.end];
             0
+        }
+        Err(refusal) => {
+            *out = [0; 4];
+            refusal.number()
         }
     }
 }
@@ -40,18 +41,14 @@ pub fn verdict_ids_reserve_entities(
     n: usize,
     handles: &mut [u64],
 ) -> u32
-    ensures { Passed (reserving (ids_of (head_of head.old) generations.now archetypes.now indices.now pending.now) n handles.old) ((ids_of (head_of head.old) generations.now archetypes.now indices.now pending.now), handles.old) result ((ids_of (head_of head.new) generations.now archetypes.now indices.now pending.now), handles.new) }
+    ensures { let lent = ids_of (head_of head.old) generations.now archetypes.now indices.now pending.now in
+        let left = ids_of (head_of head.new) generations.now archetypes.now indices.now pending.now in
+        Passed (reserving lent n handles.old) (lent, handles.old) result (left, handles.new) }
 {
-    let answer = id_batches::reserve_entities(
-        head_of(head),
-        generations,
-        archetypes,
-        indices,
-        pending,
-        n,
-        handles,
-    );
-    done(head, answer)
+    let mut ids = lent(head, generations, archetypes, indices, pending);
+    let answer = id_batches::reserve_entities(&mut ids, n, handles);
+    put_head(head, ids.head);
+    code(answer)
 }
 
 // hecs's `alloc_many` and its finish. Out: the state that walks the numbers.
@@ -66,10 +63,13 @@ pub fn verdict_ids_alloc_many(
     first: u32,
     out: &mut [u32; 4],
 ) -> u32
-    ensures { Crossed state_four (allocating_many (ids_of (head_of head.old) generations.old archetypes.old indices.old pending.now) n archetype first) (ids_of (head_of head.old) generations.old archetypes.old indices.old pending.now) result out.new (ids_of (head_of head.new) generations.new archetypes.new indices.new pending.now) }
+    ensures { let lent = ids_of (head_of head.old) generations.old archetypes.old indices.old pending.now in
+        let left = ids_of (head_of head.new) generations.new archetypes.new indices.new pending.now in
+        Crossed state_four (allocating_many lent n archetype first) lent result out.new left }
 {
+    let mut left = head_of(head);
     let answer = id_batches::alloc_many(
-        head_of(head),
+        &mut left,
         generations,
         archetypes,
         indices,
@@ -78,7 +78,8 @@ pub fn verdict_ids_alloc_many(
         archetype,
         Row(first),
     );
-    alloced_many(head, out, answer)
+    put_head(head, left);
+    alloced_many(out, answer)
 }
 
 // hecs's `flush`: the reserved numbers get successive rows of an archetype.
@@ -91,10 +92,13 @@ pub fn verdict_ids_flush(
     archetype: u32,
     first: u32,
 ) -> u32
-    ensures { Passed (flushing (ids_of (head_of head.old) generations.old archetypes.old indices.old pending.now) archetype first) (ids_of (head_of head.old) generations.old archetypes.old indices.old pending.now) result (ids_of (head_of head.new) generations.new archetypes.new indices.new pending.now) }
+    ensures { let lent = ids_of (head_of head.old) generations.old archetypes.old indices.old pending.now in
+        let left = ids_of (head_of head.new) generations.new archetypes.new indices.new pending.now in
+        Passed (flushing lent archetype first) lent result left }
 {
+    let mut left = head_of(head);
     let answer = id_batches::flush(
-        head_of(head),
+        &mut left,
         generations,
         archetypes,
         indices,
@@ -102,7 +106,8 @@ pub fn verdict_ids_flush(
         archetype,
         Row(first),
     );
-    done(head, answer)
+    put_head(head, left);
+    code(answer)
 }
 
 // hecs's `freelist`: the free handles into the front of `handles`. Out: how many.
@@ -115,15 +120,9 @@ pub fn verdict_ids_freelist(
     handles: &mut [u64],
     out: &mut [u64; 4],
 ) -> u32
-    ensures { Crossed number_four (listing (ids_of (head_of head.now) generations.now archetypes.now indices.now pending.now) handles.old) handles.old result out.new handles.new }
+    ensures { let lent = ids_of (head_of head.now) generations.now archetypes.now indices.now pending.now in
+        Crossed number_four (listing lent handles.old) handles.old result out.new handles.new }
 {
-    let answer = id_batches::freelist(
-        head_of(head),
-        generations,
-        archetypes,
-        indices,
-        pending,
-        handles,
-    );
-    counted(out, answer)
+    let ids = lent(head, generations, archetypes, indices, pending);
+    cross(out, id_batches::freelist(&ids, handles))
 }

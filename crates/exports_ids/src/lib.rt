@@ -1,8 +1,9 @@
-// What another language links of handles, borrow words and ids. Every call answers the refusal's number, 0 where it is granted; a head is four numbers: used, pending, the cursor in two's complement, live.
+// What another language links of handles, borrow words and ids. Every call answers the refusal's number, 0 where it is granted; a head is four numbers: used, pending, the cursor in two's complement, live. Each takes its tables as slices side by side: C lends them so.
 #![tactic(auto)]
 
 mod batches;
 mod numbers;
+mod tables;
 mod walks;
 mod words;
 

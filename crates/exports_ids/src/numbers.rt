@@ -9,7 +9,8 @@ ghost use Rattle.crossing.specs.Answers.{Told, Crossed, Passed, number_four, yes
 ghost use Rattle.id_tables.specs.Ids.{ids_of};
 ghost use Rattle.crossing.specs.Words.{head_of};
 
-use crossing::{chosen, contained, counted, done, found, freed, given, head_of, resolved, tested};
+use crate::tables::lent;
+use crossing::{code, cross, head_of, put_head};
 use handle::{Number, Place, Row};
 
 // hecs's `reserve_entity`. Out: the handle.
@@ -21,10 +22,14 @@ pub fn verdict_ids_reserve_entity(
     pending: &[u32],
     out: &mut [u64; 4],
 ) -> u32
-    ensures { Crossed number_four (reserving (ids_of (head_of head.old) generations.now archetypes.now indices.now pending.now)) (ids_of (head_of head.old) generations.now archetypes.now indices.now pending.now) result out.new (ids_of (head_of head.new) generations.now archetypes.now indices.now pending.now) }
+    ensures { let lent = ids_of (head_of head.old) generations.now archetypes.now indices.now pending.now in
+        let left = ids_of (head_of head.new) generations.now archetypes.now indices.now pending.now in
+        Crossed number_four (reserving lent) lent result out.new left }
 {
-    let answer = ids::reserve_entity(head_of(head), generations, archetypes, indices, pending);
-    given(head, out, answer)
+    let mut ids = lent(head, generations, archetypes, indices, pending);
+    let answer = ids::reserve_entity(&mut ids);
+    put_head(head, ids.head);
+    cross(out, answer)
 }
 
 // hecs's `alloc`, with the place that the number gets. Out: the handle.
@@ -38,21 +43,18 @@ pub fn verdict_ids_alloc(
     index: u32,
     out: &mut [u64; 4],
 ) -> u32
-    ensures { Crossed number_four (allocating (ids_of (head_of head.old) generations.old archetypes.old indices.old pending.now) (place_of archetype index)) (ids_of (head_of head.old) generations.old archetypes.old indices.old pending.now) result out.new (ids_of (head_of head.new) generations.new archetypes.new indices.new pending.now) }
+    ensures { let lent = ids_of (head_of head.old) generations.old archetypes.old indices.old pending.now in
+        let left = ids_of (head_of head.new) generations.new archetypes.new indices.new pending.now in
+        Crossed number_four (allocating lent (place_of archetype index)) lent result out.new left }
 {
     let place = Place {
         archetype: archetype,
         index: Row(index),
     };
-    let answer = ids::alloc(
-        head_of(head),
-        generations,
-        archetypes,
-        indices,
-        pending,
-        place,
-    );
-    given(head, out, answer)
+    let mut left = head_of(head);
+    let answer = ids::alloc(&mut left, generations, archetypes, indices, pending, place);
+    put_head(head, left);
+    cross(out, answer)
 }
 
 // hecs's `alloc_at`, with the place that the number gets. Out: 0, or 1 and the place that a live number had.
@@ -67,14 +69,17 @@ pub fn verdict_ids_alloc_at(
     index: u32,
     out: &mut [u64; 4],
 ) -> u32
-    ensures { Crossed old_place_four (allocating_at (ids_of (head_of head.old) generations.old archetypes.old indices.old pending.old) bits (place_of archetype index)) (ids_of (head_of head.old) generations.old archetypes.old indices.old pending.old) result out.new (ids_of (head_of head.new) generations.new archetypes.new indices.new pending.new) }
+    ensures { let lent = ids_of (head_of head.old) generations.old archetypes.old indices.old pending.old in
+        let left = ids_of (head_of head.new) generations.new archetypes.new indices.new pending.new in
+        Crossed old_place_four (allocating_at lent bits (place_of archetype index)) lent result out.new left }
 {
     let place = Place {
         archetype: archetype,
         index: Row(index),
     };
+    let mut left = head_of(head);
     let answer = ids::alloc_at(
-        head_of(head),
+        &mut left,
         generations,
         archetypes,
         indices,
@@ -82,7 +87,8 @@ pub fn verdict_ids_alloc_at(
         bits,
         place,
     );
-    chosen(head, out, answer)
+    put_head(head, left);
+    cross(out, answer)
 }
 
 // hecs's `free`. Out: the place that the number had.
@@ -95,17 +101,14 @@ pub fn verdict_ids_free(
     bits: u64,
     out: &mut [u64; 4],
 ) -> u32
-    ensures { Crossed place_four (freeing (ids_of (head_of head.old) generations.old archetypes.old indices.old pending.old) bits) (ids_of (head_of head.old) generations.old archetypes.old indices.old pending.old) result out.new (ids_of (head_of head.new) generations.new archetypes.new indices.new pending.new) }
+    ensures { let lent = ids_of (head_of head.old) generations.old archetypes.old indices.old pending.old in
+        let left = ids_of (head_of head.new) generations.new archetypes.new indices.new pending.new in
+        Crossed place_four (freeing lent bits) lent result out.new left }
 {
-    let answer = ids::free(
-        head_of(head),
-        generations,
-        archetypes,
-        indices,
-        pending,
-        bits,
-    );
-    freed(head, out, answer)
+    let mut left = head_of(head);
+    let answer = ids::free(&mut left, generations, archetypes, indices, pending, bits);
+    put_head(head, left);
+    cross(out, answer)
 }
 
 // hecs's `contains`. Out: 1 for yes, 0 for no.
@@ -118,17 +121,11 @@ pub fn verdict_ids_contains(
     bits: u64,
     out: &mut [u64; 4],
 ) -> u32
-    ensures { Told yes_four (containing (ids_of (head_of head.now) generations.now archetypes.now indices.now pending.now) bits) result out.new }
+    ensures { let lent = ids_of (head_of head.now) generations.now archetypes.now indices.now pending.now in
+        Told yes_four (containing lent bits) result out.new }
 {
-    let answer = id_tables::contains(
-        head_of(head),
-        generations,
-        archetypes,
-        indices,
-        pending,
-        bits,
-    );
-    contained(out, answer)
+    let ids = lent(head, generations, archetypes, indices, pending);
+    cross(out, ids.contains(bits))
 }
 
 // hecs's `get`. Out: the place.
@@ -141,17 +138,11 @@ pub fn verdict_ids_get(
     bits: u64,
     out: &mut [u64; 4],
 ) -> u32
-    ensures { Told place_four (getting (ids_of (head_of head.now) generations.now archetypes.now indices.now pending.now) bits) result out.new }
+    ensures { let lent = ids_of (head_of head.now) generations.now archetypes.now indices.now pending.now in
+        Told place_four (getting lent bits) result out.new }
 {
-    let answer = id_tables::get(
-        head_of(head),
-        generations,
-        archetypes,
-        indices,
-        pending,
-        bits,
-    );
-    found(out, answer)
+    let ids = lent(head, generations, archetypes, indices, pending);
+    cross(out, ids.get(bits))
 }
 
 // hecs's `get_mut`: sets the place of a live number.
@@ -165,7 +156,9 @@ pub fn verdict_ids_set_place(
     archetype: u32,
     index: u32,
 ) -> u32
-    ensures { Passed (setting_place (ids_of (head_of head.now) generations.now archetypes.old indices.old pending.now) bits (place_of archetype index)) (ids_of (head_of head.now) generations.now archetypes.old indices.old pending.now) result (ids_of (head_of head.now) generations.now archetypes.new indices.new pending.now) }
+    ensures { let lent = ids_of (head_of head.now) generations.now archetypes.old indices.old pending.now in
+        let left = ids_of (head_of head.now) generations.now archetypes.new indices.new pending.now in
+        Passed (setting_place lent bits (place_of archetype index)) lent result left }
 {
     let place = Place {
         archetype: archetype,
@@ -180,7 +173,7 @@ pub fn verdict_ids_set_place(
         bits,
         place,
     );
-    tested(answer)
+    code(answer)
 }
 
 // hecs's `resolve_unknown_gen`. Out: the handle.
@@ -193,17 +186,11 @@ pub fn verdict_ids_resolve_unknown_gen(
     number: u32,
     out: &mut [u64; 4],
 ) -> u32
-    ensures { Told number_four (resolving (ids_of (head_of head.now) generations.now archetypes.now indices.now pending.now) number) result out.new }
+    ensures { let lent = ids_of (head_of head.now) generations.now archetypes.now indices.now pending.now in
+        Told number_four (resolving lent number) result out.new }
 {
-    let answer = id_tables::resolve_unknown_gen(
-        head_of(head),
-        generations,
-        archetypes,
-        indices,
-        pending,
-        Number(number),
-    );
-    resolved(out, answer)
+    let ids = lent(head, generations, archetypes, indices, pending);
+    cross(out, ids.resolve_unknown_gen(Number(number)))
 }
 
 // hecs's `len`. Out: the live count.
@@ -215,10 +202,11 @@ pub fn verdict_ids_len(
     pending: &[u32],
     out: &mut [u64; 4],
 ) -> u32
-    ensures { Told number_four (counting (ids_of (head_of head.now) generations.now archetypes.now indices.now pending.now)) result out.new }
+    ensures { let lent = ids_of (head_of head.now) generations.now archetypes.now indices.now pending.now in
+        Told number_four (counting lent) result out.new }
 {
-    let answer = id_tables::len(head_of(head), generations, archetypes, indices, pending);
-    counted(out, answer)
+    let ids = lent(head, generations, archetypes, indices, pending);
+    cross(out, ids.len())
 }
 
 // hecs's `clear`.
@@ -229,8 +217,12 @@ pub fn verdict_ids_clear(
     indices: &[u32],
     pending: &[u32],
 ) -> u32
-    ensures { Passed (clearing (ids_of (head_of head.old) generations.now archetypes.now indices.now pending.now)) (ids_of (head_of head.old) generations.now archetypes.now indices.now pending.now) result (ids_of (head_of head.new) generations.now archetypes.now indices.now pending.now) }
+    ensures { let lent = ids_of (head_of head.old) generations.now archetypes.now indices.now pending.now in
+        let left = ids_of (head_of head.new) generations.now archetypes.now indices.now pending.now in
+        Passed (clearing lent) lent result left }
 {
-    let answer = id_tables::clear(head_of(head), generations, archetypes, indices, pending);
-    done(head, answer)
+    let mut ids = lent(head, generations, archetypes, indices, pending);
+    let answer = ids.clear();
+    put_head(head, ids.head);
+    code(answer)
 }

@@ -3,18 +3,56 @@ ghost use Rattle.std.specs.Prelude.{◌≡◌};
 ghost use Rattle.refusal.specs.Table.{granted};
 ghost use Rattle.id_tables.specs.Ids.{ids_of};
 ghost use Rattle.id_batches.specs.AllocMany.{walking, left_in as numbers_left};
-ghost use Rattle.id_readers.specs.Reader.{reader_at, stepping, next_of, left_in};
-ghost use Rattle.id_readers.specs.State.{numbered_of};
+ghost use Rattle.id_readers.specs.Reader.{reader_at, stepping, left_in};
 ghost use Rattle.crossing.specs.Words.{head_of};
 ghost use Rattle.crossing.specs.Answers.{Told, Crossed, number_four, maybe_four};
 ghost use Rattle.exports_ids.specs.State.{state_in};
 ghost use Rattle.exports_ids.specs.Span.{span_four, reserving_span};
 
-use crossing::{done, head_of, refuse, store};
+use crate::tables::lent;
+use crossing::{Crossing, cross, put_head};
+use handle::Handle;
 use id_batches::AllocManyState;
-use id_readers::{
-    NextEntity, NextNumber, alloc_many_step, reserve_len, reserve_next, reserve_span,
-};
+use id_readers::{Span, alloc_many_next, reserve_len, reserve_next, reserve_span};
+
+// A span that crosses: from and to in the pending list, then the new numbers from and to.
+#[derive(Clone, Copy)]
+struct Spanned(Span);
+
+impl Crossing for Spanned {
+    ghost use Rattle.id_readers.specs.Reader.{span_of};
+    ghost use Rattle.exports_ids.specs.Span.{span_four};
+
+    ghost numbers = { λ spanned. span_four (span_of spanned.0) };
+
+    fn four(self) -> [u64; 4] {
+        let span = self.0;
+        [
+            span.from as u64,
+            span.to as u64,
+            span.number as u64,
+            span.end as u64,
+        ]
+    }
+}
+
+// What a step of a reader gives, which crosses as 1 and the handle, or as 0 after the last.
+#[derive(Clone, Copy)]
+struct Handed(Option<Handle>);
+
+impl Crossing for Handed {
+    ghost use Rattle.id_readers.specs.Reader.{handed_of};
+    ghost use Rattle.crossing.specs.Answers.{maybe_four};
+
+    ghost numbers = { λ handed. maybe_four (handed_of handed.0) };
+
+    fn four(self) -> [u64; 4] {
+        match self.0 {
+            None => [0; 4],
+            Some(handle) => [1, handle.to_bits(), 0, 0],
+        }
+    }
+}
 
 // A reservation of n as a span. Out: from and to in the pending list, then the new numbers from and to.
 pub fn verdict_ids_reserve_span(
@@ -26,33 +64,14 @@ pub fn verdict_ids_reserve_span(
     n: usize,
     out: &mut [u64; 4],
 ) -> u32
-    ensures { Crossed span_four (reserving_span (ids_of (head_of head.old) generations.now archetypes.now indices.now pending.now) n) (ids_of (head_of head.old) generations.now archetypes.now indices.now pending.now) result out.new (ids_of (head_of head.new) generations.now archetypes.now indices.now pending.now) }
+    ensures { let lent = ids_of (head_of head.old) generations.now archetypes.now indices.now pending.now in
+        let left = ids_of (head_of head.new) generations.now archetypes.now indices.now pending.now in
+        Crossed span_four (reserving_span lent n) lent result out.new left }
 {
-    let span = reserve_span(head_of(head), generations, archetypes, indices, pending, n);
-    *out = [
-        span.from as u64,
-        span.to as u64,
-        span.number as u64,
-        span.end as u64,
-    ];
-    let answer = span.done;
-    done(head, answer)
-}
-
-fn handed(out: &mut [u64; 4], answer: NextEntity) -> u32
-    ensures { Told maybe_four (next_of answer) result out.new }
-{
-    match answer {
-        NextEntity::Refused(r) => refuse(out, r),
-        NextEntity::Done => {
-            store(out, 0, 0, 0);
-            0
-        }
-        NextEntity::Entity(handle) => {
-            store(out, 1, handle.to_bits(), 0);
-            0
-        }
-    }
+    let mut ids = lent(head, generations, archetypes, indices, pending);
+    let answer = reserve_span(&mut ids, n);
+    put_head(head, ids.head);
+    cross(out, answer.map(Spanned))
 }
 
 // hecs's `ReserveEntitiesIterator::next`, of the reader of a part. Out: 1 and the handle, or 0 after the last.
@@ -66,11 +85,8 @@ pub fn verdict_ids_reserve_next(
 ) -> u32
     ensures { Crossed maybe_four (stepping (reader_at recycled.now position.old number.old end) generations.now) (reader_at recycled.now position.old number.old end) result out.new (reader_at recycled.now position.new number.new end) }
 {
-    let step = reserve_next(recycled, *position, *number, end, generations);
-    *position = step.position;
-    *number = step.number;
-    let answer = step.next;
-    handed(out, answer)
+    let answer = reserve_next(recycled, position, number, end, generations);
+    cross(out, answer.map(Handed))
 }
 
 // hecs's `ReserveEntitiesIterator::len`. Out: how many handles are left.
@@ -83,11 +99,10 @@ pub fn verdict_ids_reserve_len(
 ) -> u32
     ensures { Told number_four (granted (left_in (reader_at recycled.now position number end))) result out.new }
 {
-    let left = reserve_len(recycled, position, number, end);
-    store(out, left as u64, 0, 0);
-    0
+    cross(out, Ok(reserve_len(recycled, position, number, end)))
 }
 
+// The state as C holds it. Functions, and no `From`: neither the array nor the state is of this crate.
 fn state_of(words: &[u32; 4]) -> AllocManyState
     ensures { result ≡ state_in words.now }
 {
@@ -105,37 +120,19 @@ fn put_state(words: &mut [u32; 4], state: AllocManyState)
     *words = [state.position, state.top, state.number, state.end];
 }
 
-fn numbered(out: &mut [u64; 4], answer: NextNumber) -> u32
-    ensures { Told maybe_four (numbered_of answer) result out.new }
-{
-    match answer {
-        NextNumber::Refused(r) => refuse(out, r),
-        NextNumber::Done => {
-            store(out, 0, 0, 0);
-            0
-        }
-        NextNumber::Number(number) => {
-            store(out, 1, number.0 as u64, 0);
-            0
-        }
-    }
-}
-
 // hecs's `AllocManyState::next`, over the numbers of an `alloc_many`. Out: 1 and the number, or 0 after the last.
 pub fn verdict_ids_alloc_many_next(state: &mut [u32; 4], pending: &[u32], out: &mut [u64; 4]) -> u32
     ensures { Crossed maybe_four (walking (state_in state.old) pending.now) (state_in state.old) result out.new (state_in state.new) }
 {
-    let step = alloc_many_step(state_of(state), pending);
-    put_state(state, step.state);
-    let answer = step.next;
-    numbered(out, answer)
+    let mut walk = state_of(state);
+    let answer = alloc_many_next(&mut walk, pending);
+    put_state(state, walk);
+    cross(out, answer)
 }
 
 // hecs's `AllocManyState::len`. Out: how many numbers are left.
 pub fn verdict_ids_alloc_many_len(state: &[u32; 4], out: &mut [u64; 4]) -> u32
     ensures { Told number_four (granted (numbers_left (state_in state.now))) result out.new }
 {
-    let from = state_of(state);
-    store(out, from.len() as u64, 0, 0);
-    0
+    cross(out, Ok(state_of(state).len()))
 }

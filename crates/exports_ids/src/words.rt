@@ -1,63 +1,41 @@
 // The calls on a borrow word and on a handle's bits that another language links.
 ghost use Rattle.std.specs.Prelude.{◌≡◌};
-ghost use Rattle.refusal.specs.Table.{value_of};
-ghost use Rattle.handle.specs.Bits.{from_bits, new_handle, answer_of as handle_of};
-ghost use Rattle.borrow_word.specs.Word.{answer_of, shared_word, unique_word, released_word, unique_released_word};
+ghost use Rattle.refusal.specs.Table.{answer_of};
+ghost use Rattle.handle.specs.Bits.{from_bits, new_handle};
+ghost use Rattle.borrow_word.specs.Word.{shared_word, unique_word, released_word, unique_released_word};
 ghost use Rattle.borrow_word.specs.Slice.{at_word};
-ghost use Rattle.crossing.specs.Answers.{Told, Crossed, Passed, code_of, number_four};
+ghost use Rattle.crossing.specs.Answers.{Told, Crossed, Passed, number_four};
 ghost use Rattle.exports_ids.specs.Words.{in_place, halves_four};
 
-use borrow_word::Borrowed;
-use crossing::{refuse, store};
-use handle::{Bits, Handle, Number};
+use crossing::{Crossing, cross};
+use handle::{Handle, Number};
+use refusal::Refusal;
+
+// A handle that crosses in halves: the number and the generation.
+#[derive(Clone, Copy)]
+struct Halves(Handle);
+
+impl Crossing for Halves {
+    ghost use Rattle.exports_ids.specs.Words.{halves_four};
+
+    ghost numbers = { λ halves. halves_four halves.0.0 };
+
+    fn four(self) -> [u64; 4] {
+        let handle = self.0;
+        [handle.id().0 as u64, handle.generation() as u64, 0, 0]
+    }
+}
 
 // Leaves a granted word.
-fn left(word: &mut u64, answer: Borrowed) -> u32
+fn left(word: &mut u64, answer: Result<u64, Refusal>) -> u32
     ensures { Passed (in_place (answer_of answer)) word.old result word.new }
 {
     match answer {
-        Borrowed::Refused(r) => r.number(),
-        Borrowed::Granted(w) => {
-            *word = w;
+        Ok(granted) => {
+            *word = granted;
             0
         }
-    }
-}
-
-fn borrowed(out: &mut [u64; 4], answer: Borrowed) -> u32
-    ensures { Told number_four (answer_of answer) result out.new }
-{
-    match answer {
-        Borrowed::Refused(r) => refuse(out, r),
-        Borrowed::Granted(w) => {
-            store(out, w, 0, 0);
-            0
-        }
-    }
-}
-
-fn halves(out: &mut [u64; 4], answer: Bits) -> u32
-    ensures { Told halves_four (handle_of answer) result out.new }
-{
-    match answer {
-        Bits::Refused(r) => refuse(out, r),
-        Bits::Good(handle) => {
-            let number = handle.id();
-            store(out, number.0 as u64, handle.generation() as u64, 0);
-            0
-        }
-    }
-}
-
-fn bits(out: &mut [u64; 4], answer: Bits) -> u32
-    ensures { Told number_four (handle_of answer) result out.new }
-{
-    match answer {
-        Bits::Refused(r) => refuse(out, r),
-        Bits::Good(handle) => {
-            store(out, handle.to_bits(), 0, 0);
-            0
-        }
+        Err(refusal) => refusal.number(),
     }
 }
 
@@ -65,16 +43,14 @@ fn bits(out: &mut [u64; 4], answer: Bits) -> u32
 pub fn verdict_handle_from_bits(raw: u64, out: &mut [u64; 4]) -> u32
     ensures { Told halves_four (from_bits raw) result out.new }
 {
-    let answer = Handle::from_bits(raw);
-    halves(out, answer)
+    cross(out, Handle::from_bits(raw).map(Halves))
 }
 
 // A handle of a number and a generation. Out: its bits.
 pub fn verdict_handle_new(number: u32, generation: u32, out: &mut [u64; 4]) -> u32
     ensures { Told number_four (new_handle number generation) result out.new }
 {
-    let answer = Handle::new(Number(number), generation);
-    bits(out, answer)
+    cross(out, Handle::new(Number(number), generation))
 }
 
 // Shared borrow of a word in place.
@@ -89,8 +65,7 @@ pub fn verdict_word_shared(word: &mut u64) -> u32
 pub fn verdict_word_shared_at(words: &mut [u64], at: usize, out: &mut [u64; 4]) -> u32
     ensures { Crossed number_four (at_word shared_word words.old at) words.old result out.new words.new }
 {
-    let answer = borrow_word::shared_at(words, at);
-    borrowed(out, answer)
+    cross(out, borrow_word::shared_at(words, at))
 }
 
 // Unique borrow of a word in place.
@@ -105,8 +80,7 @@ pub fn verdict_word_unique(word: &mut u64) -> u32
 pub fn verdict_word_unique_at(words: &mut [u64], at: usize, out: &mut [u64; 4]) -> u32
     ensures { Crossed number_four (at_word unique_word words.old at) words.old result out.new words.new }
 {
-    let answer = borrow_word::unique_at(words, at);
-    borrowed(out, answer)
+    cross(out, borrow_word::unique_at(words, at))
 }
 
 // Shared release of a word in place.
@@ -121,8 +95,7 @@ pub fn verdict_word_release(word: &mut u64) -> u32
 pub fn verdict_word_release_at(words: &mut [u64], at: usize, out: &mut [u64; 4]) -> u32
     ensures { Crossed number_four (at_word released_word words.old at) words.old result out.new words.new }
 {
-    let answer = borrow_word::release_at(words, at);
-    borrowed(out, answer)
+    cross(out, borrow_word::release_at(words, at))
 }
 
 // Unique release of a word in place.
@@ -137,6 +110,5 @@ pub fn verdict_word_unique_release(word: &mut u64) -> u32
 pub fn verdict_word_unique_release_at(words: &mut [u64], at: usize, out: &mut [u64; 4]) -> u32
     ensures { Crossed number_four (at_word unique_released_word words.old at) words.old result out.new words.new }
 {
-    let answer = borrow_word::unique_release_at(words, at);
-    borrowed(out, answer)
+    cross(out, borrow_word::unique_release_at(words, at))
 }

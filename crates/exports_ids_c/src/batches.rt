@@ -19,7 +19,9 @@ pub extern "C" fn verdict_ids_reserve_entities(
     n: usize,
     handles: &mut [u64],
 ) -> u32
-    ensures { Passed (reserving (ids_of (head_of head.old) generations.now archetypes.now indices.now pending.now) n handles.old) ((ids_of (head_of head.old) generations.now archetypes.now indices.now pending.now), handles.old) result ((ids_of (head_of head.new) generations.now archetypes.now indices.now pending.now), handles.new) }
+    ensures { let lent = ids_of (head_of head.old) generations.now archetypes.now indices.now pending.now in
+        let left = ids_of (head_of head.new) generations.now archetypes.now indices.now pending.now in
+        Passed (reserving lent n handles.old) (lent, handles.old) result (left, handles.new) }
 {
     exports_ids::verdict_ids_reserve_entities(
         head,
@@ -45,7 +47,9 @@ pub extern "C" fn verdict_ids_alloc_many(
     first: u32,
     out: &mut [u32; 4],
 ) -> u32
-    ensures { Crossed state_four (allocating_many (ids_of (head_of head.old) generations.old archetypes.old indices.old pending.now) n archetype first) (ids_of (head_of head.old) generations.old archetypes.old indices.old pending.now) result out.new (ids_of (head_of head.new) generations.new archetypes.new indices.new pending.now) }
+    ensures { let lent = ids_of (head_of head.old) generations.old archetypes.old indices.old pending.now in
+        let left = ids_of (head_of head.new) generations.new archetypes.new indices.new pending.now in
+        Crossed state_four (allocating_many lent n archetype first) lent result out.new left }
 {
     exports_ids::verdict_ids_alloc_many(
         head,
@@ -71,7 +75,9 @@ pub extern "C" fn verdict_ids_flush(
     archetype: u32,
     first: u32,
 ) -> u32
-    ensures { Passed (flushing (ids_of (head_of head.old) generations.old archetypes.old indices.old pending.now) archetype first) (ids_of (head_of head.old) generations.old archetypes.old indices.old pending.now) result (ids_of (head_of head.new) generations.new archetypes.new indices.new pending.now) }
+    ensures { let lent = ids_of (head_of head.old) generations.old archetypes.old indices.old pending.now in
+        let left = ids_of (head_of head.new) generations.new archetypes.new indices.new pending.now in
+        Passed (flushing lent archetype first) lent result left }
 {
     exports_ids::verdict_ids_flush(
         head,
@@ -95,7 +101,8 @@ pub extern "C" fn verdict_ids_freelist(
     handles: &mut [u64],
     out: &mut [u64; 4],
 ) -> u32
-    ensures { Crossed number_four (listing (ids_of (head_of head.now) generations.now archetypes.now indices.now pending.now) handles.old) handles.old result out.new handles.new }
+    ensures { let lent = ids_of (head_of head.now) generations.now archetypes.now indices.now pending.now in
+        Crossed number_four (listing lent handles.old) handles.old result out.new handles.new }
 {
     exports_ids::verdict_ids_freelist(
         head,

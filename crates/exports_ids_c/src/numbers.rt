@@ -19,7 +19,9 @@ pub extern "C" fn verdict_ids_reserve_entity(
     pending: &[u32],
     out: &mut [u64; 4],
 ) -> u32
-    ensures { Crossed number_four (reserving (ids_of (head_of head.old) generations.now archetypes.now indices.now pending.now)) (ids_of (head_of head.old) generations.now archetypes.now indices.now pending.now) result out.new (ids_of (head_of head.new) generations.now archetypes.now indices.now pending.now) }
+    ensures { let lent = ids_of (head_of head.old) generations.now archetypes.now indices.now pending.now in
+        let left = ids_of (head_of head.new) generations.now archetypes.now indices.now pending.now in
+        Crossed number_four (reserving lent) lent result out.new left }
 {
     exports_ids::verdict_ids_reserve_entity(head, generations, archetypes, indices, pending, out)
 }
@@ -36,7 +38,9 @@ pub extern "C" fn verdict_ids_alloc(
     index: u32,
     out: &mut [u64; 4],
 ) -> u32
-    ensures { Crossed number_four (allocating (ids_of (head_of head.old) generations.old archetypes.old indices.old pending.now) (place_of archetype index)) (ids_of (head_of head.old) generations.old archetypes.old indices.old pending.now) result out.new (ids_of (head_of head.new) generations.new archetypes.new indices.new pending.now) }
+    ensures { let lent = ids_of (head_of head.old) generations.old archetypes.old indices.old pending.now in
+        let left = ids_of (head_of head.new) generations.new archetypes.new indices.new pending.now in
+        Crossed number_four (allocating lent (place_of archetype index)) lent result out.new left }
 {
     exports_ids::verdict_ids_alloc(
         head,
@@ -63,7 +67,9 @@ pub extern "C" fn verdict_ids_alloc_at(
     index: u32,
     out: &mut [u64; 4],
 ) -> u32
-    ensures { Crossed old_place_four (allocating_at (ids_of (head_of head.old) generations.old archetypes.old indices.old pending.old) bits (place_of archetype index)) (ids_of (head_of head.old) generations.old archetypes.old indices.old pending.old) result out.new (ids_of (head_of head.new) generations.new archetypes.new indices.new pending.new) }
+    ensures { let lent = ids_of (head_of head.old) generations.old archetypes.old indices.old pending.old in
+        let left = ids_of (head_of head.new) generations.new archetypes.new indices.new pending.new in
+        Crossed old_place_four (allocating_at lent bits (place_of archetype index)) lent result out.new left }
 {
     exports_ids::verdict_ids_alloc_at(
         head,
@@ -89,7 +95,9 @@ pub extern "C" fn verdict_ids_free(
     bits: u64,
     out: &mut [u64; 4],
 ) -> u32
-    ensures { Crossed place_four (freeing (ids_of (head_of head.old) generations.old archetypes.old indices.old pending.old) bits) (ids_of (head_of head.old) generations.old archetypes.old indices.old pending.old) result out.new (ids_of (head_of head.new) generations.new archetypes.new indices.new pending.new) }
+    ensures { let lent = ids_of (head_of head.old) generations.old archetypes.old indices.old pending.old in
+        let left = ids_of (head_of head.new) generations.new archetypes.new indices.new pending.new in
+        Crossed place_four (freeing lent bits) lent result out.new left }
 {
     exports_ids::verdict_ids_free(head, generations, archetypes, indices, pending, bits, out)
 }
@@ -105,7 +113,8 @@ pub extern "C" fn verdict_ids_contains(
     bits: u64,
     out: &mut [u64; 4],
 ) -> u32
-    ensures { Told yes_four (containing (ids_of (head_of head.now) generations.now archetypes.now indices.now pending.now) bits) result out.new }
+    ensures { let lent = ids_of (head_of head.now) generations.now archetypes.now indices.now pending.now in
+        Told yes_four (containing lent bits) result out.new }
 {
     exports_ids::verdict_ids_contains(head, generations, archetypes, indices, pending, bits, out)
 }
@@ -121,7 +130,8 @@ pub extern "C" fn verdict_ids_get(
     bits: u64,
     out: &mut [u64; 4],
 ) -> u32
-    ensures { Told place_four (getting (ids_of (head_of head.now) generations.now archetypes.now indices.now pending.now) bits) result out.new }
+    ensures { let lent = ids_of (head_of head.now) generations.now archetypes.now indices.now pending.now in
+        Told place_four (getting lent bits) result out.new }
 {
     exports_ids::verdict_ids_get(head, generations, archetypes, indices, pending, bits, out)
 }
@@ -138,7 +148,9 @@ pub extern "C" fn verdict_ids_set_place(
     archetype: u32,
     index: u32,
 ) -> u32
-    ensures { Passed (setting_place (ids_of (head_of head.now) generations.now archetypes.old indices.old pending.now) bits (place_of archetype index)) (ids_of (head_of head.now) generations.now archetypes.old indices.old pending.now) result (ids_of (head_of head.now) generations.now archetypes.new indices.new pending.now) }
+    ensures { let lent = ids_of (head_of head.now) generations.now archetypes.old indices.old pending.now in
+        let left = ids_of (head_of head.now) generations.now archetypes.new indices.new pending.now in
+        Passed (setting_place lent bits (place_of archetype index)) lent result left }
 {
     exports_ids::verdict_ids_set_place(
         head,
@@ -163,7 +175,8 @@ pub extern "C" fn verdict_ids_resolve_unknown_gen(
     number: u32,
     out: &mut [u64; 4],
 ) -> u32
-    ensures { Told number_four (resolving (ids_of (head_of head.now) generations.now archetypes.now indices.now pending.now) number) result out.new }
+    ensures { let lent = ids_of (head_of head.now) generations.now archetypes.now indices.now pending.now in
+        Told number_four (resolving lent number) result out.new }
 {
     exports_ids::verdict_ids_resolve_unknown_gen(
         head,
@@ -186,7 +199,8 @@ pub extern "C" fn verdict_ids_len(
     pending: &[u32],
     out: &mut [u64; 4],
 ) -> u32
-    ensures { Told number_four (counting (ids_of (head_of head.now) generations.now archetypes.now indices.now pending.now)) result out.new }
+    ensures { let lent = ids_of (head_of head.now) generations.now archetypes.now indices.now pending.now in
+        Told number_four (counting lent) result out.new }
 {
     exports_ids::verdict_ids_len(head, generations, archetypes, indices, pending, out)
 }
@@ -200,7 +214,9 @@ pub extern "C" fn verdict_ids_clear(
     indices: &[u32],
     pending: &[u32],
 ) -> u32
-    ensures { Passed (clearing (ids_of (head_of head.old) generations.now archetypes.now indices.now pending.now)) (ids_of (head_of head.old) generations.now archetypes.now indices.now pending.now) result (ids_of (head_of head.new) generations.now archetypes.now indices.now pending.now) }
+    ensures { let lent = ids_of (head_of head.old) generations.now archetypes.now indices.now pending.now in
+        let left = ids_of (head_of head.new) generations.now archetypes.now indices.now pending.now in
+        Passed (clearing lent) lent result left }
 {
     exports_ids::verdict_ids_clear(head, generations, archetypes, indices, pending)
 }

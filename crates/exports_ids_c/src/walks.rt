@@ -19,7 +19,9 @@ pub extern "C" fn verdict_ids_reserve_span(
     n: usize,
     out: &mut [u64; 4],
 ) -> u32
-    ensures { Crossed span_four (reserving_span (ids_of (head_of head.old) generations.now archetypes.now indices.now pending.now) n) (ids_of (head_of head.old) generations.now archetypes.now indices.now pending.now) result out.new (ids_of (head_of head.new) generations.now archetypes.now indices.now pending.now) }
+    ensures { let lent = ids_of (head_of head.old) generations.now archetypes.now indices.now pending.now in
+        let left = ids_of (head_of head.new) generations.now archetypes.now indices.now pending.now in
+        Crossed span_four (reserving_span lent n) lent result out.new left }
 {
     exports_ids::verdict_ids_reserve_span(head, generations, archetypes, indices, pending, n, out)
 }

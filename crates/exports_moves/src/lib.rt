@@ -1,4 +1,4 @@
-// What another language links of the store's spawn at, insert, remove and flush. Every call answers the refusal's number, 0 where it is granted; a head is four numbers: used, pending, the cursor in two's complement, live.
+// What another language links of the store's spawn at, insert, remove and flush. Every call answers the refusal's number, 0 where it is granted; a head is four numbers: used, pending, the cursor in two's complement, live. Each takes its tables as slices side by side, since C lends them so, and makes the views of them.
 #![tactic(auto)]
 
 ghost use Rattle.store_spawn_at.specs.SpawnAt.{spawning_at};
@@ -12,7 +12,8 @@ ghost use Rattle.row_step.specs.Tables.{tables_of};
 ghost use Rattle.store_tables.specs.Store.{store_of};
 ghost use Rattle.crossing.specs.Words.{head_of};
 
-use crossing::{done, head_of, tested};
+use crossing::{code, head_of, put_head};
+use decl::Declaration;
 
 // An entity of a chosen handle in an archetype, with the bytes of its components in column order. A live number's old row leaves first.
 pub fn verdict_store_spawn_at(
@@ -33,14 +34,20 @@ pub fn verdict_store_spawn_at(
     archetype: u32,
     run: &[u8],
 ) -> u32
-    ensures { Passed (spawning_at (store_of (decl_of rows.now widths.now types.now sizes.now) (ids_of (head_of head.old) generations.old archetypes.old indices.old pending.old) (tables_of numbers.old counts.old bytes.old) words.now) bits archetype run.now) (store_of (decl_of rows.now widths.now types.now sizes.now) (ids_of (head_of head.old) generations.old archetypes.old indices.old pending.old) (tables_of numbers.old counts.old bytes.old) words.now) result (store_of (decl_of rows.now widths.now types.now sizes.now) (ids_of (head_of head.new) generations.new archetypes.new indices.new pending.new) (tables_of numbers.new counts.new bytes.new) words.now) }
+    ensures { let lent = store_of (decl_of rows.now widths.now types.now sizes.now) (ids_of (head_of head.old) generations.old archetypes.old indices.old pending.old) (tables_of numbers.old counts.old bytes.old) words.now in
+        let left = store_of (decl_of rows.now widths.now types.now sizes.now) (ids_of (head_of head.new) generations.new archetypes.new indices.new pending.new) (tables_of numbers.new counts.new bytes.new) words.now in
+        Passed (spawning_at lent bits archetype run.now) lent result left }
 {
-    let answer = store_spawn_at::spawn_at(
-        head_of(head),
+    let declaration = Declaration {
         rows,
         widths,
         types,
         sizes,
+    };
+    let mut left = head_of(head);
+    let answer = store_spawn_at::spawn_at(
+        &mut left,
+        &declaration,
         generations,
         archetypes,
         indices,
@@ -53,7 +60,8 @@ pub fn verdict_store_spawn_at(
         archetype,
         run,
     );
-    done(head, answer)
+    put_head(head, left);
+    code(answer)
 }
 
 // A component of an entity: where its archetype lacks it, the row moves to the one that has it.
@@ -75,14 +83,19 @@ pub fn verdict_store_insert(
     kind: u32,
     value: &[u8],
 ) -> u32
-    ensures { Passed (inserting (store_of (decl_of rows.now widths.now types.now sizes.now) (ids_of (head_of head.now) generations.now archetypes.old indices.old pending.now) (tables_of numbers.old counts.old bytes.old) words.now) bits kind value.now) (store_of (decl_of rows.now widths.now types.now sizes.now) (ids_of (head_of head.now) generations.now archetypes.old indices.old pending.now) (tables_of numbers.old counts.old bytes.old) words.now) result (store_of (decl_of rows.now widths.now types.now sizes.now) (ids_of (head_of head.now) generations.now archetypes.new indices.new pending.now) (tables_of numbers.new counts.new bytes.new) words.now) }
+    ensures { let lent = store_of (decl_of rows.now widths.now types.now sizes.now) (ids_of (head_of head.now) generations.now archetypes.old indices.old pending.now) (tables_of numbers.old counts.old bytes.old) words.now in
+        let left = store_of (decl_of rows.now widths.now types.now sizes.now) (ids_of (head_of head.now) generations.now archetypes.new indices.new pending.now) (tables_of numbers.new counts.new bytes.new) words.now in
+        Passed (inserting lent bits kind value.now) lent result left }
 {
-    let answer = store_insert::insert(
-        head_of(head),
+    let declaration = Declaration {
         rows,
         widths,
         types,
         sizes,
+    };
+    let answer = store_insert::insert(
+        head_of(head),
+        &declaration,
         generations,
         archetypes,
         indices,
@@ -95,7 +108,7 @@ pub fn verdict_store_insert(
         kind,
         value,
     );
-    tested(answer)
+    code(answer)
 }
 
 // A component that an entity holds no longer: the row moves to the archetype without it.
@@ -116,14 +129,19 @@ pub fn verdict_store_remove(
     bits: u64,
     kind: u32,
 ) -> u32
-    ensures { Passed (removing (store_of (decl_of rows.now widths.now types.now sizes.now) (ids_of (head_of head.now) generations.now archetypes.old indices.old pending.now) (tables_of numbers.old counts.old bytes.old) words.now) bits kind) (store_of (decl_of rows.now widths.now types.now sizes.now) (ids_of (head_of head.now) generations.now archetypes.old indices.old pending.now) (tables_of numbers.old counts.old bytes.old) words.now) result (store_of (decl_of rows.now widths.now types.now sizes.now) (ids_of (head_of head.now) generations.now archetypes.new indices.new pending.now) (tables_of numbers.new counts.new bytes.new) words.now) }
+    ensures { let lent = store_of (decl_of rows.now widths.now types.now sizes.now) (ids_of (head_of head.now) generations.now archetypes.old indices.old pending.now) (tables_of numbers.old counts.old bytes.old) words.now in
+        let left = store_of (decl_of rows.now widths.now types.now sizes.now) (ids_of (head_of head.now) generations.now archetypes.new indices.new pending.now) (tables_of numbers.new counts.new bytes.new) words.now in
+        Passed (removing lent bits kind) lent result left }
 {
-    let answer = store_remove::remove(
-        head_of(head),
+    let declaration = Declaration {
         rows,
         widths,
         types,
         sizes,
+    };
+    let answer = store_remove::remove(
+        head_of(head),
+        &declaration,
         generations,
         archetypes,
         indices,
@@ -135,7 +153,7 @@ pub fn verdict_store_remove(
         bits,
         kind,
     );
-    tested(answer)
+    code(answer)
 }
 
 // Every reserved entity gets a row of archetype 0.
@@ -154,14 +172,20 @@ pub fn verdict_store_flush(
     bytes: &[u8],
     words: &[u64],
 ) -> u32
-    ensures { Passed (flushing (store_of (decl_of rows.now widths.now types.now sizes.now) (ids_of (head_of head.old) generations.old archetypes.old indices.old pending.now) (tables_of numbers.old counts.old bytes.now) words.now)) (store_of (decl_of rows.now widths.now types.now sizes.now) (ids_of (head_of head.old) generations.old archetypes.old indices.old pending.now) (tables_of numbers.old counts.old bytes.now) words.now) result (store_of (decl_of rows.now widths.now types.now sizes.now) (ids_of (head_of head.new) generations.new archetypes.new indices.new pending.now) (tables_of numbers.new counts.new bytes.now) words.now) }
+    ensures { let lent = store_of (decl_of rows.now widths.now types.now sizes.now) (ids_of (head_of head.old) generations.old archetypes.old indices.old pending.now) (tables_of numbers.old counts.old bytes.now) words.now in
+        let left = store_of (decl_of rows.now widths.now types.now sizes.now) (ids_of (head_of head.new) generations.new archetypes.new indices.new pending.now) (tables_of numbers.new counts.new bytes.now) words.now in
+        Passed (flushing lent) lent result left }
 {
-    let answer = store_flush::flush(
-        head_of(head),
+    let declaration = Declaration {
         rows,
         widths,
         types,
         sizes,
+    };
+    let mut left = head_of(head);
+    let answer = store_flush::flush(
+        &mut left,
+        &declaration,
         generations,
         archetypes,
         indices,
@@ -171,5 +195,6 @@ pub fn verdict_store_flush(
         bytes,
         words,
     );
-    done(head, answer)
+    put_head(head, left);
+    code(answer)
 }

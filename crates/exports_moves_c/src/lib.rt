@@ -32,7 +32,9 @@ pub extern "C" fn verdict_store_spawn_at(
     archetype: u32,
     run: &[u8],
 ) -> u32
-    ensures { Passed (spawning_at (store_of (decl_of rows.now widths.now types.now sizes.now) (ids_of (head_of head.old) generations.old archetypes.old indices.old pending.old) (tables_of numbers.old counts.old bytes.old) words.now) bits archetype run.now) (store_of (decl_of rows.now widths.now types.now sizes.now) (ids_of (head_of head.old) generations.old archetypes.old indices.old pending.old) (tables_of numbers.old counts.old bytes.old) words.now) result (store_of (decl_of rows.now widths.now types.now sizes.now) (ids_of (head_of head.new) generations.new archetypes.new indices.new pending.new) (tables_of numbers.new counts.new bytes.new) words.now) }
+    ensures { let lent = store_of (decl_of rows.now widths.now types.now sizes.now) (ids_of (head_of head.old) generations.old archetypes.old indices.old pending.old) (tables_of numbers.old counts.old bytes.old) words.now in
+        let left = store_of (decl_of rows.now widths.now types.now sizes.now) (ids_of (head_of head.new) generations.new archetypes.new indices.new pending.new) (tables_of numbers.new counts.new bytes.new) words.now in
+        Passed (spawning_at lent bits archetype run.now) lent result left }
 {
     exports_moves::verdict_store_spawn_at(
         head,
@@ -74,7 +76,9 @@ pub extern "C" fn verdict_store_insert(
     kind: u32,
     value: &[u8],
 ) -> u32
-    ensures { Passed (inserting (store_of (decl_of rows.now widths.now types.now sizes.now) (ids_of (head_of head.now) generations.now archetypes.old indices.old pending.now) (tables_of numbers.old counts.old bytes.old) words.now) bits kind value.now) (store_of (decl_of rows.now widths.now types.now sizes.now) (ids_of (head_of head.now) generations.now archetypes.old indices.old pending.now) (tables_of numbers.old counts.old bytes.old) words.now) result (store_of (decl_of rows.now widths.now types.now sizes.now) (ids_of (head_of head.now) generations.now archetypes.new indices.new pending.now) (tables_of numbers.new counts.new bytes.new) words.now) }
+    ensures { let lent = store_of (decl_of rows.now widths.now types.now sizes.now) (ids_of (head_of head.now) generations.now archetypes.old indices.old pending.now) (tables_of numbers.old counts.old bytes.old) words.now in
+        let left = store_of (decl_of rows.now widths.now types.now sizes.now) (ids_of (head_of head.now) generations.now archetypes.new indices.new pending.now) (tables_of numbers.new counts.new bytes.new) words.now in
+        Passed (inserting lent bits kind value.now) lent result left }
 {
     exports_moves::verdict_store_insert(
         head,
@@ -115,7 +119,9 @@ pub extern "C" fn verdict_store_remove(
     bits: u64,
     kind: u32,
 ) -> u32
-    ensures { Passed (removing (store_of (decl_of rows.now widths.now types.now sizes.now) (ids_of (head_of head.now) generations.now archetypes.old indices.old pending.now) (tables_of numbers.old counts.old bytes.old) words.now) bits kind) (store_of (decl_of rows.now widths.now types.now sizes.now) (ids_of (head_of head.now) generations.now archetypes.old indices.old pending.now) (tables_of numbers.old counts.old bytes.old) words.now) result (store_of (decl_of rows.now widths.now types.now sizes.now) (ids_of (head_of head.now) generations.now archetypes.new indices.new pending.now) (tables_of numbers.new counts.new bytes.new) words.now) }
+    ensures { let lent = store_of (decl_of rows.now widths.now types.now sizes.now) (ids_of (head_of head.now) generations.now archetypes.old indices.old pending.now) (tables_of numbers.old counts.old bytes.old) words.now in
+        let left = store_of (decl_of rows.now widths.now types.now sizes.now) (ids_of (head_of head.now) generations.now archetypes.new indices.new pending.now) (tables_of numbers.new counts.new bytes.new) words.now in
+        Passed (removing lent bits kind) lent result left }
 {
     exports_moves::verdict_store_remove(
         head,
@@ -153,7 +159,9 @@ pub extern "C" fn verdict_store_flush(
     bytes: &[u8],
     words: &[u64],
 ) -> u32
-    ensures { Passed (flushing (store_of (decl_of rows.now widths.now types.now sizes.now) (ids_of (head_of head.old) generations.old archetypes.old indices.old pending.now) (tables_of numbers.old counts.old bytes.now) words.now)) (store_of (decl_of rows.now widths.now types.now sizes.now) (ids_of (head_of head.old) generations.old archetypes.old indices.old pending.now) (tables_of numbers.old counts.old bytes.now) words.now) result (store_of (decl_of rows.now widths.now types.now sizes.now) (ids_of (head_of head.new) generations.new archetypes.new indices.new pending.now) (tables_of numbers.new counts.new bytes.now) words.now) }
+    ensures { let lent = store_of (decl_of rows.now widths.now types.now sizes.now) (ids_of (head_of head.old) generations.old archetypes.old indices.old pending.now) (tables_of numbers.old counts.old bytes.now) words.now in
+        let left = store_of (decl_of rows.now widths.now types.now sizes.now) (ids_of (head_of head.new) generations.new archetypes.new indices.new pending.now) (tables_of numbers.new counts.new bytes.now) words.now in
+        Passed (flushing lent) lent result left }
 {
     exports_moves::verdict_store_flush(
         head,

@@ -1,9 +1,9 @@
-// What another language links of the store's reads, writes, borrows and lookups. Every call answers the refusal's number, 0 where it is granted; a head is four numbers: used, pending, the cursor in two's complement, live.
+// What another language links of the store's reads, writes, borrows and lookups. Every call answers the refusal's number, 0 where it is granted; a head is four numbers: used, pending, the cursor in two's complement, live. Each takes its tables as slices side by side, since C lends them so, and makes the views of them.
 #![tactic(auto)]
 
 ghost use Rattle.borrow_word.specs.Word.{shared_word, unique_word, released_word, unique_released_word};
 ghost use Rattle.store_reads.specs.Lookup.{getting, containing, resolving, counting};
-ghost use Rattle.store_reads.specs.Read.{reading, part_of};
+ghost use Rattle.store_reads.specs.Read.{reading};
 ghost use Rattle.store_reads.specs.Write.{writing};
 ghost use Rattle.store_reads.specs.Words.{holding};
 ghost use Rattle.crossing.specs.Answers.{Told, Passed, number_four, yes_four, place_four, part_four};
@@ -13,21 +13,12 @@ ghost use Rattle.row_step.specs.Tables.{tables_of};
 ghost use Rattle.store_tables.specs.Store.{store_of};
 ghost use Rattle.crossing.specs.Words.{head_of};
 
-use crossing::{contained, counted, found, head_of, refuse, resolved, store, tested};
+use crossing::{code, cross, head_of};
+use decl::Declaration;
 use handle::Number;
-use store_reads::Part;
-
-fn part(out: &mut [u64; 4], answer: Part) -> u32
-    ensures { Told part_four (part_of answer) result out.new }
-{
-    match answer {
-        Part::Refused(r) => refuse(out, r),
-        Part::At(start, length) => {
-            store(out, start as u64, length as u64, 0);
-            0
-        }
-    }
-}
+use id_tables::IdTables;
+use row_step::RowTables;
+use store_tables::StoreTables;
 
 // Where an entity is. Out: the place.
 pub fn verdict_store_get(
@@ -47,25 +38,31 @@ pub fn verdict_store_get(
     bits: u64,
     out: &mut [u64; 4],
 ) -> u32
-    ensures { Told place_four (getting (store_of (decl_of rows.now widths.now types.now sizes.now) (ids_of (head_of head.now) generations.now archetypes.now indices.now pending.now) (tables_of numbers.now counts.now bytes.now) words.now) bits) result out.new }
+    ensures { let lent = store_of (decl_of rows.now widths.now types.now sizes.now) (ids_of (head_of head.now) generations.now archetypes.now indices.now pending.now) (tables_of numbers.now counts.now bytes.now) words.now in
+        Told place_four (getting lent bits) result out.new }
 {
-    let answer = store_reads::get(
-        head_of(head),
-        rows,
-        widths,
-        types,
-        sizes,
-        generations,
-        archetypes,
-        indices,
-        pending,
-        numbers,
-        counts,
-        bytes,
+    let store = StoreTables {
+        declaration: Declaration {
+            rows,
+            widths,
+            types,
+            sizes,
+        },
+        ids: IdTables {
+            head: head_of(head),
+            generations,
+            archetypes,
+            indices,
+            pending,
+        },
+        rows: RowTables {
+            numbers,
+            counts,
+            bytes,
+        },
         words,
-        bits,
-    );
-    found(out, answer)
+    };
+    cross(out, store_reads::get(&store, bits))
 }
 
 // Whether an entity is live or reserved. Out: 1 for yes, 0 for no.
@@ -86,25 +83,31 @@ pub fn verdict_store_contains(
     bits: u64,
     out: &mut [u64; 4],
 ) -> u32
-    ensures { Told yes_four (containing (store_of (decl_of rows.now widths.now types.now sizes.now) (ids_of (head_of head.now) generations.now archetypes.now indices.now pending.now) (tables_of numbers.now counts.now bytes.now) words.now) bits) result out.new }
+    ensures { let lent = store_of (decl_of rows.now widths.now types.now sizes.now) (ids_of (head_of head.now) generations.now archetypes.now indices.now pending.now) (tables_of numbers.now counts.now bytes.now) words.now in
+        Told yes_four (containing lent bits) result out.new }
 {
-    let answer = store_reads::contains(
-        head_of(head),
-        rows,
-        widths,
-        types,
-        sizes,
-        generations,
-        archetypes,
-        indices,
-        pending,
-        numbers,
-        counts,
-        bytes,
+    let store = StoreTables {
+        declaration: Declaration {
+            rows,
+            widths,
+            types,
+            sizes,
+        },
+        ids: IdTables {
+            head: head_of(head),
+            generations,
+            archetypes,
+            indices,
+            pending,
+        },
+        rows: RowTables {
+            numbers,
+            counts,
+            bytes,
+        },
         words,
-        bits,
-    );
-    contained(out, answer)
+    };
+    cross(out, store_reads::contains(&store, bits))
 }
 
 // The handle of a number. Out: the handle.
@@ -125,25 +128,32 @@ pub fn verdict_store_resolve_unknown_gen(
     number: u32,
     out: &mut [u64; 4],
 ) -> u32
-    ensures { Told number_four (resolving (store_of (decl_of rows.now widths.now types.now sizes.now) (ids_of (head_of head.now) generations.now archetypes.now indices.now pending.now) (tables_of numbers.now counts.now bytes.now) words.now) number) result out.new }
+    ensures { let lent = store_of (decl_of rows.now widths.now types.now sizes.now) (ids_of (head_of head.now) generations.now archetypes.now indices.now pending.now) (tables_of numbers.now counts.now bytes.now) words.now in
+        Told number_four (resolving lent number) result out.new }
 {
-    let answer = store_reads::resolve_unknown_gen(
-        head_of(head),
-        rows,
-        widths,
-        types,
-        sizes,
-        generations,
-        archetypes,
-        indices,
-        pending,
-        numbers,
-        counts,
-        bytes,
+    let store = StoreTables {
+        declaration: Declaration {
+            rows,
+            widths,
+            types,
+            sizes,
+        },
+        ids: IdTables {
+            head: head_of(head),
+            generations,
+            archetypes,
+            indices,
+            pending,
+        },
+        rows: RowTables {
+            numbers,
+            counts,
+            bytes,
+        },
         words,
-        Number(number),
-    );
-    resolved(out, answer)
+    };
+    let answer = store_reads::resolve_unknown_gen(&store, Number(number));
+    cross(out, answer)
 }
 
 // Out: the live count.
@@ -163,24 +173,31 @@ pub fn verdict_store_len(
     words: &[u64],
     out: &mut [u64; 4],
 ) -> u32
-    ensures { Told number_four (counting (store_of (decl_of rows.now widths.now types.now sizes.now) (ids_of (head_of head.now) generations.now archetypes.now indices.now pending.now) (tables_of numbers.now counts.now bytes.now) words.now)) result out.new }
+    ensures { let lent = store_of (decl_of rows.now widths.now types.now sizes.now) (ids_of (head_of head.now) generations.now archetypes.now indices.now pending.now) (tables_of numbers.now counts.now bytes.now) words.now in
+        Told number_four (counting lent) result out.new }
 {
-    let answer = store_reads::len(
-        head_of(head),
-        rows,
-        widths,
-        types,
-        sizes,
-        generations,
-        archetypes,
-        indices,
-        pending,
-        numbers,
-        counts,
-        bytes,
+    let store = StoreTables {
+        declaration: Declaration {
+            rows,
+            widths,
+            types,
+            sizes,
+        },
+        ids: IdTables {
+            head: head_of(head),
+            generations,
+            archetypes,
+            indices,
+            pending,
+        },
+        rows: RowTables {
+            numbers,
+            counts,
+            bytes,
+        },
         words,
-    );
-    counted(out, answer)
+    };
+    cross(out, store_reads::len(&store))
 }
 
 // Out: where a component's bytes are, start and length.
@@ -202,26 +219,31 @@ pub fn verdict_store_read(
     kind: u32,
     out: &mut [u64; 4],
 ) -> u32
-    ensures { Told part_four (reading (store_of (decl_of rows.now widths.now types.now sizes.now) (ids_of (head_of head.now) generations.now archetypes.now indices.now pending.now) (tables_of numbers.now counts.now bytes.now) words.now) bits kind) result out.new }
+    ensures { let lent = store_of (decl_of rows.now widths.now types.now sizes.now) (ids_of (head_of head.now) generations.now archetypes.now indices.now pending.now) (tables_of numbers.now counts.now bytes.now) words.now in
+        Told part_four (reading lent bits kind) result out.new }
 {
-    let answer = store_reads::read(
-        head_of(head),
-        rows,
-        widths,
-        types,
-        sizes,
-        generations,
-        archetypes,
-        indices,
-        pending,
-        numbers,
-        counts,
-        bytes,
+    let store = StoreTables {
+        declaration: Declaration {
+            rows,
+            widths,
+            types,
+            sizes,
+        },
+        ids: IdTables {
+            head: head_of(head),
+            generations,
+            archetypes,
+            indices,
+            pending,
+        },
+        rows: RowTables {
+            numbers,
+            counts,
+            bytes,
+        },
         words,
-        bits,
-        kind,
-    );
-    part(out, answer)
+    };
+    cross(out, store_reads::read(&store, bits, kind))
 }
 
 // Component bytes stored over an entity's.
@@ -243,18 +265,26 @@ pub fn verdict_store_write(
     kind: u32,
     value: &[u8],
 ) -> u32
-    ensures { Passed (writing (store_of (decl_of rows.now widths.now types.now sizes.now) (ids_of (head_of head.now) generations.now archetypes.now indices.now pending.now) (tables_of numbers.now counts.now bytes.old) words.now) bits kind value.now) (store_of (decl_of rows.now widths.now types.now sizes.now) (ids_of (head_of head.now) generations.now archetypes.now indices.now pending.now) (tables_of numbers.now counts.now bytes.old) words.now) result (store_of (decl_of rows.now widths.now types.now sizes.now) (ids_of (head_of head.now) generations.now archetypes.now indices.now pending.now) (tables_of numbers.now counts.now bytes.new) words.now) }
+    ensures { let lent = store_of (decl_of rows.now widths.now types.now sizes.now) (ids_of (head_of head.now) generations.now archetypes.now indices.now pending.now) (tables_of numbers.now counts.now bytes.old) words.now in
+        let left = store_of (decl_of rows.now widths.now types.now sizes.now) (ids_of (head_of head.now) generations.now archetypes.now indices.now pending.now) (tables_of numbers.now counts.now bytes.new) words.now in
+        Passed (writing lent bits kind value.now) lent result left }
 {
-    let answer = store_reads::write(
-        head_of(head),
+    let declaration = Declaration {
         rows,
         widths,
         types,
         sizes,
+    };
+    let ids = IdTables {
+        head: head_of(head),
         generations,
         archetypes,
         indices,
         pending,
+    };
+    let answer = store_reads::write(
+        &declaration,
+        &ids,
         numbers,
         counts,
         bytes,
@@ -263,7 +293,7 @@ pub fn verdict_store_write(
         kind,
         value,
     );
-    tested(answer)
+    code(answer)
 }
 
 // Shared borrow of a column.
@@ -284,26 +314,30 @@ pub fn verdict_store_borrow(
     archetype: u32,
     kind: u32,
 ) -> u32
-    ensures { Passed (holding shared_word (store_of (decl_of rows.now widths.now types.now sizes.now) (ids_of (head_of head.now) generations.now archetypes.now indices.now pending.now) (tables_of numbers.now counts.now bytes.now) words.old) archetype kind) (store_of (decl_of rows.now widths.now types.now sizes.now) (ids_of (head_of head.now) generations.now archetypes.now indices.now pending.now) (tables_of numbers.now counts.now bytes.now) words.old) result (store_of (decl_of rows.now widths.now types.now sizes.now) (ids_of (head_of head.now) generations.now archetypes.now indices.now pending.now) (tables_of numbers.now counts.now bytes.now) words.new) }
+    ensures { let lent = store_of (decl_of rows.now widths.now types.now sizes.now) (ids_of (head_of head.now) generations.now archetypes.now indices.now pending.now) (tables_of numbers.now counts.now bytes.now) words.old in
+        let left = store_of (decl_of rows.now widths.now types.now sizes.now) (ids_of (head_of head.now) generations.now archetypes.now indices.now pending.now) (tables_of numbers.now counts.now bytes.now) words.new in
+        Passed (holding shared_word lent archetype kind) lent result left }
 {
-    let answer = store_reads::borrow(
-        head_of(head),
+    let declaration = Declaration {
         rows,
         widths,
         types,
         sizes,
+    };
+    let ids = IdTables {
+        head: head_of(head),
         generations,
         archetypes,
         indices,
         pending,
+    };
+    let tables = RowTables {
         numbers,
         counts,
         bytes,
-        words,
-        archetype as usize,
-        kind,
-    );
-    tested(answer)
+    };
+    let answer = store_reads::borrow(&declaration, &ids, &tables, words, archetype as usize, kind);
+    code(answer)
 }
 
 // Unique borrow of a column.
@@ -324,26 +358,37 @@ pub fn verdict_store_borrow_mut(
     archetype: u32,
     kind: u32,
 ) -> u32
-    ensures { Passed (holding unique_word (store_of (decl_of rows.now widths.now types.now sizes.now) (ids_of (head_of head.now) generations.now archetypes.now indices.now pending.now) (tables_of numbers.now counts.now bytes.now) words.old) archetype kind) (store_of (decl_of rows.now widths.now types.now sizes.now) (ids_of (head_of head.now) generations.now archetypes.now indices.now pending.now) (tables_of numbers.now counts.now bytes.now) words.old) result (store_of (decl_of rows.now widths.now types.now sizes.now) (ids_of (head_of head.now) generations.now archetypes.now indices.now pending.now) (tables_of numbers.now counts.now bytes.now) words.new) }
+    ensures { let lent = store_of (decl_of rows.now widths.now types.now sizes.now) (ids_of (head_of head.now) generations.now archetypes.now indices.now pending.now) (tables_of numbers.now counts.now bytes.now) words.old in
+        let left = store_of (decl_of rows.now widths.now types.now sizes.now) (ids_of (head_of head.now) generations.now archetypes.now indices.now pending.now) (tables_of numbers.now counts.now bytes.now) words.new in
+        Passed (holding unique_word lent archetype kind) lent result left }
 {
-    let answer = store_reads::borrow_mut(
-        head_of(head),
+    let declaration = Declaration {
         rows,
         widths,
         types,
         sizes,
+    };
+    let ids = IdTables {
+        head: head_of(head),
         generations,
         archetypes,
         indices,
         pending,
+    };
+    let tables = RowTables {
         numbers,
         counts,
         bytes,
+    };
+    let answer = store_reads::borrow_mut(
+        &declaration,
+        &ids,
+        &tables,
         words,
         archetype as usize,
         kind,
     );
-    tested(answer)
+    code(answer)
 }
 
 // Shared release of a column.
@@ -364,26 +409,30 @@ pub fn verdict_store_release(
     archetype: u32,
     kind: u32,
 ) -> u32
-    ensures { Passed (holding released_word (store_of (decl_of rows.now widths.now types.now sizes.now) (ids_of (head_of head.now) generations.now archetypes.now indices.now pending.now) (tables_of numbers.now counts.now bytes.now) words.old) archetype kind) (store_of (decl_of rows.now widths.now types.now sizes.now) (ids_of (head_of head.now) generations.now archetypes.now indices.now pending.now) (tables_of numbers.now counts.now bytes.now) words.old) result (store_of (decl_of rows.now widths.now types.now sizes.now) (ids_of (head_of head.now) generations.now archetypes.now indices.now pending.now) (tables_of numbers.now counts.now bytes.now) words.new) }
+    ensures { let lent = store_of (decl_of rows.now widths.now types.now sizes.now) (ids_of (head_of head.now) generations.now archetypes.now indices.now pending.now) (tables_of numbers.now counts.now bytes.now) words.old in
+        let left = store_of (decl_of rows.now widths.now types.now sizes.now) (ids_of (head_of head.now) generations.now archetypes.now indices.now pending.now) (tables_of numbers.now counts.now bytes.now) words.new in
+        Passed (holding released_word lent archetype kind) lent result left }
 {
-    let answer = store_reads::release(
-        head_of(head),
+    let declaration = Declaration {
         rows,
         widths,
         types,
         sizes,
+    };
+    let ids = IdTables {
+        head: head_of(head),
         generations,
         archetypes,
         indices,
         pending,
+    };
+    let tables = RowTables {
         numbers,
         counts,
         bytes,
-        words,
-        archetype as usize,
-        kind,
-    );
-    tested(answer)
+    };
+    let answer = store_reads::release(&declaration, &ids, &tables, words, archetype as usize, kind);
+    code(answer)
 }
 
 // Unique release of a column.
@@ -404,24 +453,35 @@ pub fn verdict_store_release_mut(
     archetype: u32,
     kind: u32,
 ) -> u32
-    ensures { Passed (holding unique_released_word (store_of (decl_of rows.now widths.now types.now sizes.now) (ids_of (head_of head.now) generations.now archetypes.now indices.now pending.now) (tables_of numbers.now counts.now bytes.now) words.old) archetype kind) (store_of (decl_of rows.now widths.now types.now sizes.now) (ids_of (head_of head.now) generations.now archetypes.now indices.now pending.now) (tables_of numbers.now counts.now bytes.now) words.old) result (store_of (decl_of rows.now widths.now types.now sizes.now) (ids_of (head_of head.now) generations.now archetypes.now indices.now pending.now) (tables_of numbers.now counts.now bytes.now) words.new) }
+    ensures { let lent = store_of (decl_of rows.now widths.now types.now sizes.now) (ids_of (head_of head.now) generations.now archetypes.now indices.now pending.now) (tables_of numbers.now counts.now bytes.now) words.old in
+        let left = store_of (decl_of rows.now widths.now types.now sizes.now) (ids_of (head_of head.now) generations.now archetypes.now indices.now pending.now) (tables_of numbers.now counts.now bytes.now) words.new in
+        Passed (holding unique_released_word lent archetype kind) lent result left }
 {
-    let answer = store_reads::release_mut(
-        head_of(head),
+    let declaration = Declaration {
         rows,
         widths,
         types,
         sizes,
+    };
+    let ids = IdTables {
+        head: head_of(head),
         generations,
         archetypes,
         indices,
         pending,
+    };
+    let tables = RowTables {
         numbers,
         counts,
         bytes,
+    };
+    let answer = store_reads::release_mut(
+        &declaration,
+        &ids,
+        &tables,
         words,
         archetype as usize,
         kind,
     );
-    tested(answer)
+    code(answer)
 }

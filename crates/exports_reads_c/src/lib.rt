@@ -32,7 +32,8 @@ pub extern "C" fn verdict_store_get(
     bits: u64,
     out: &mut [u64; 4],
 ) -> u32
-    ensures { Told place_four (getting (store_of (decl_of rows.now widths.now types.now sizes.now) (ids_of (head_of head.now) generations.now archetypes.now indices.now pending.now) (tables_of numbers.now counts.now bytes.now) words.now) bits) result out.new }
+    ensures { let lent = store_of (decl_of rows.now widths.now types.now sizes.now) (ids_of (head_of head.now) generations.now archetypes.now indices.now pending.now) (tables_of numbers.now counts.now bytes.now) words.now in
+        Told place_four (getting lent bits) result out.new }
 {
     exports_reads::verdict_store_get(
         head,
@@ -72,7 +73,8 @@ pub extern "C" fn verdict_store_contains(
     bits: u64,
     out: &mut [u64; 4],
 ) -> u32
-    ensures { Told yes_four (containing (store_of (decl_of rows.now widths.now types.now sizes.now) (ids_of (head_of head.now) generations.now archetypes.now indices.now pending.now) (tables_of numbers.now counts.now bytes.now) words.now) bits) result out.new }
+    ensures { let lent = store_of (decl_of rows.now widths.now types.now sizes.now) (ids_of (head_of head.now) generations.now archetypes.now indices.now pending.now) (tables_of numbers.now counts.now bytes.now) words.now in
+        Told yes_four (containing lent bits) result out.new }
 {
     exports_reads::verdict_store_contains(
         head,
@@ -112,7 +114,8 @@ pub extern "C" fn verdict_store_resolve_unknown_gen(
     number: u32,
     out: &mut [u64; 4],
 ) -> u32
-    ensures { Told number_four (resolving (store_of (decl_of rows.now widths.now types.now sizes.now) (ids_of (head_of head.now) generations.now archetypes.now indices.now pending.now) (tables_of numbers.now counts.now bytes.now) words.now) number) result out.new }
+    ensures { let lent = store_of (decl_of rows.now widths.now types.now sizes.now) (ids_of (head_of head.now) generations.now archetypes.now indices.now pending.now) (tables_of numbers.now counts.now bytes.now) words.now in
+        Told number_four (resolving lent number) result out.new }
 {
     exports_reads::verdict_store_resolve_unknown_gen(
         head,
@@ -151,7 +154,8 @@ pub extern "C" fn verdict_store_len(
     words: &[u64],
     out: &mut [u64; 4],
 ) -> u32
-    ensures { Told number_four (counting (store_of (decl_of rows.now widths.now types.now sizes.now) (ids_of (head_of head.now) generations.now archetypes.now indices.now pending.now) (tables_of numbers.now counts.now bytes.now) words.now)) result out.new }
+    ensures { let lent = store_of (decl_of rows.now widths.now types.now sizes.now) (ids_of (head_of head.now) generations.now archetypes.now indices.now pending.now) (tables_of numbers.now counts.now bytes.now) words.now in
+        Told number_four (counting lent) result out.new }
 {
     exports_reads::verdict_store_len(
         head,
@@ -191,7 +195,8 @@ pub extern "C" fn verdict_store_read(
     kind: u32,
     out: &mut [u64; 4],
 ) -> u32
-    ensures { Told part_four (reading (store_of (decl_of rows.now widths.now types.now sizes.now) (ids_of (head_of head.now) generations.now archetypes.now indices.now pending.now) (tables_of numbers.now counts.now bytes.now) words.now) bits kind) result out.new }
+    ensures { let lent = store_of (decl_of rows.now widths.now types.now sizes.now) (ids_of (head_of head.now) generations.now archetypes.now indices.now pending.now) (tables_of numbers.now counts.now bytes.now) words.now in
+        Told part_four (reading lent bits kind) result out.new }
 {
     exports_reads::verdict_store_read(
         head,
@@ -233,7 +238,9 @@ pub extern "C" fn verdict_store_write(
     kind: u32,
     value: &[u8],
 ) -> u32
-    ensures { Passed (writing (store_of (decl_of rows.now widths.now types.now sizes.now) (ids_of (head_of head.now) generations.now archetypes.now indices.now pending.now) (tables_of numbers.now counts.now bytes.old) words.now) bits kind value.now) (store_of (decl_of rows.now widths.now types.now sizes.now) (ids_of (head_of head.now) generations.now archetypes.now indices.now pending.now) (tables_of numbers.now counts.now bytes.old) words.now) result (store_of (decl_of rows.now widths.now types.now sizes.now) (ids_of (head_of head.now) generations.now archetypes.now indices.now pending.now) (tables_of numbers.now counts.now bytes.new) words.now) }
+    ensures { let lent = store_of (decl_of rows.now widths.now types.now sizes.now) (ids_of (head_of head.now) generations.now archetypes.now indices.now pending.now) (tables_of numbers.now counts.now bytes.old) words.now in
+        let left = store_of (decl_of rows.now widths.now types.now sizes.now) (ids_of (head_of head.now) generations.now archetypes.now indices.now pending.now) (tables_of numbers.now counts.now bytes.new) words.now in
+        Passed (writing lent bits kind value.now) lent result left }
 {
     exports_reads::verdict_store_write(
         head,
@@ -274,7 +281,9 @@ pub extern "C" fn verdict_store_borrow(
     archetype: u32,
     kind: u32,
 ) -> u32
-    ensures { Passed (holding shared_word (store_of (decl_of rows.now widths.now types.now sizes.now) (ids_of (head_of head.now) generations.now archetypes.now indices.now pending.now) (tables_of numbers.now counts.now bytes.now) words.old) archetype kind) (store_of (decl_of rows.now widths.now types.now sizes.now) (ids_of (head_of head.now) generations.now archetypes.now indices.now pending.now) (tables_of numbers.now counts.now bytes.now) words.old) result (store_of (decl_of rows.now widths.now types.now sizes.now) (ids_of (head_of head.now) generations.now archetypes.now indices.now pending.now) (tables_of numbers.now counts.now bytes.now) words.new) }
+    ensures { let lent = store_of (decl_of rows.now widths.now types.now sizes.now) (ids_of (head_of head.now) generations.now archetypes.now indices.now pending.now) (tables_of numbers.now counts.now bytes.now) words.old in
+        let left = store_of (decl_of rows.now widths.now types.now sizes.now) (ids_of (head_of head.now) generations.now archetypes.now indices.now pending.now) (tables_of numbers.now counts.now bytes.now) words.new in
+        Passed (holding shared_word lent archetype kind) lent result left }
 {
     exports_reads::verdict_store_borrow(
         head,
@@ -314,7 +323,9 @@ pub extern "C" fn verdict_store_borrow_mut(
     archetype: u32,
     kind: u32,
 ) -> u32
-    ensures { Passed (holding unique_word (store_of (decl_of rows.now widths.now types.now sizes.now) (ids_of (head_of head.now) generations.now archetypes.now indices.now pending.now) (tables_of numbers.now counts.now bytes.now) words.old) archetype kind) (store_of (decl_of rows.now widths.now types.now sizes.now) (ids_of (head_of head.now) generations.now archetypes.now indices.now pending.now) (tables_of numbers.now counts.now bytes.now) words.old) result (store_of (decl_of rows.now widths.now types.now sizes.now) (ids_of (head_of head.now) generations.now archetypes.now indices.now pending.now) (tables_of numbers.now counts.now bytes.now) words.new) }
+    ensures { let lent = store_of (decl_of rows.now widths.now types.now sizes.now) (ids_of (head_of head.now) generations.now archetypes.now indices.now pending.now) (tables_of numbers.now counts.now bytes.now) words.old in
+        let left = store_of (decl_of rows.now widths.now types.now sizes.now) (ids_of (head_of head.now) generations.now archetypes.now indices.now pending.now) (tables_of numbers.now counts.now bytes.now) words.new in
+        Passed (holding unique_word lent archetype kind) lent result left }
 {
     exports_reads::verdict_store_borrow_mut(
         head,
@@ -354,7 +365,9 @@ pub extern "C" fn verdict_store_release(
     archetype: u32,
     kind: u32,
 ) -> u32
-    ensures { Passed (holding released_word (store_of (decl_of rows.now widths.now types.now sizes.now) (ids_of (head_of head.now) generations.now archetypes.now indices.now pending.now) (tables_of numbers.now counts.now bytes.now) words.old) archetype kind) (store_of (decl_of rows.now widths.now types.now sizes.now) (ids_of (head_of head.now) generations.now archetypes.now indices.now pending.now) (tables_of numbers.now counts.now bytes.now) words.old) result (store_of (decl_of rows.now widths.now types.now sizes.now) (ids_of (head_of head.now) generations.now archetypes.now indices.now pending.now) (tables_of numbers.now counts.now bytes.now) words.new) }
+    ensures { let lent = store_of (decl_of rows.now widths.now types.now sizes.now) (ids_of (head_of head.now) generations.now archetypes.now indices.now pending.now) (tables_of numbers.now counts.now bytes.now) words.old in
+        let left = store_of (decl_of rows.now widths.now types.now sizes.now) (ids_of (head_of head.now) generations.now archetypes.now indices.now pending.now) (tables_of numbers.now counts.now bytes.now) words.new in
+        Passed (holding released_word lent archetype kind) lent result left }
 {
     exports_reads::verdict_store_release(
         head,
@@ -394,7 +407,9 @@ pub extern "C" fn verdict_store_release_mut(
     archetype: u32,
     kind: u32,
 ) -> u32
-    ensures { Passed (holding unique_released_word (store_of (decl_of rows.now widths.now types.now sizes.now) (ids_of (head_of head.now) generations.now archetypes.now indices.now pending.now) (tables_of numbers.now counts.now bytes.now) words.old) archetype kind) (store_of (decl_of rows.now widths.now types.now sizes.now) (ids_of (head_of head.now) generations.now archetypes.now indices.now pending.now) (tables_of numbers.now counts.now bytes.now) words.old) result (store_of (decl_of rows.now widths.now types.now sizes.now) (ids_of (head_of head.now) generations.now archetypes.now indices.now pending.now) (tables_of numbers.now counts.now bytes.now) words.new) }
+    ensures { let lent = store_of (decl_of rows.now widths.now types.now sizes.now) (ids_of (head_of head.now) generations.now archetypes.now indices.now pending.now) (tables_of numbers.now counts.now bytes.now) words.old in
+        let left = store_of (decl_of rows.now widths.now types.now sizes.now) (ids_of (head_of head.now) generations.now archetypes.now indices.now pending.now) (tables_of numbers.now counts.now bytes.now) words.new in
+        Passed (holding unique_released_word lent archetype kind) lent result left }
 {
     exports_reads::verdict_store_release_mut(
         head,

@@ -1,4 +1,4 @@
-// What another language links of the store's calls that look at no row: reserve one, reserve n, the free list; and clear. Every call answers the refusal's number, 0 where it is granted; a head is four numbers: used, pending, the cursor in two's complement, live.
+// What another language links of the store's calls that look at no row: reserve one, reserve n, the free list; and clear. Every call answers the refusal's number, 0 where it is granted; a head is four numbers: used, pending, the cursor in two's complement, live. Each takes its tables as slices side by side, since C lends them so, and makes the views of them.
 #![tactic(auto)]
 
 ghost use Rattle.store_reserve.specs.Reserve.{reserving, reserving_many, listing_free};
@@ -10,7 +10,11 @@ ghost use Rattle.row_step.specs.Tables.{tables_of};
 ghost use Rattle.store_tables.specs.Store.{store_of};
 ghost use Rattle.crossing.specs.Words.{head_of};
 
-use crossing::{counted, done, given, head_of};
+use crossing::{code, cross, head_of, put_head};
+use decl::Declaration;
+use id_tables::IdTables;
+use row_step::RowTables;
+use store_tables::StoreTables;
 
 // A handle before its row. Out: the handle.
 pub fn verdict_store_reserve_entity(
@@ -29,24 +33,34 @@ pub fn verdict_store_reserve_entity(
     words: &[u64],
     out: &mut [u64; 4],
 ) -> u32
-    ensures { Crossed number_four (reserving (store_of (decl_of rows.now widths.now types.now sizes.now) (ids_of (head_of head.old) generations.now archetypes.now indices.now pending.now) (tables_of numbers.now counts.now bytes.now) words.now)) (store_of (decl_of rows.now widths.now types.now sizes.now) (ids_of (head_of head.old) generations.now archetypes.now indices.now pending.now) (tables_of numbers.now counts.now bytes.now) words.now) result out.new (store_of (decl_of rows.now widths.now types.now sizes.now) (ids_of (head_of head.new) generations.now archetypes.now indices.now pending.now) (tables_of numbers.now counts.now bytes.now) words.now) }
+    ensures { let lent = store_of (decl_of rows.now widths.now types.now sizes.now) (ids_of (head_of head.old) generations.now archetypes.now indices.now pending.now) (tables_of numbers.now counts.now bytes.now) words.now in
+        let left = store_of (decl_of rows.now widths.now types.now sizes.now) (ids_of (head_of head.new) generations.now archetypes.now indices.now pending.now) (tables_of numbers.now counts.now bytes.now) words.now in
+        Crossed number_four (reserving lent) lent result out.new left }
 {
-    let answer = store_reserve::reserve_entity(
-        head_of(head),
-        rows,
-        widths,
-        types,
-        sizes,
-        generations,
-        archetypes,
-        indices,
-        pending,
-        numbers,
-        counts,
-        bytes,
+    let mut store = StoreTables {
+        declaration: Declaration {
+            rows,
+            widths,
+            types,
+            sizes,
+        },
+        ids: IdTables {
+            head: head_of(head),
+            generations,
+            archetypes,
+            indices,
+            pending,
+        },
+        rows: RowTables {
+            numbers,
+            counts,
+            bytes,
+        },
         words,
-    );
-    given(head, out, answer)
+    };
+    let answer = store_reserve::reserve_entity(&mut store);
+    put_head(head, store.ids.head);
+    cross(out, answer)
 }
 
 // n handles before their rows, into `handles`, whose rest stays.
@@ -67,26 +81,34 @@ pub fn verdict_store_reserve_entities(
     n: usize,
     handles: &mut [u64],
 ) -> u32
-    ensures { Passed (reserving_many (store_of (decl_of rows.now widths.now types.now sizes.now) (ids_of (head_of head.old) generations.now archetypes.now indices.now pending.now) (tables_of numbers.now counts.now bytes.now) words.now) n handles.old) ((store_of (decl_of rows.now widths.now types.now sizes.now) (ids_of (head_of head.old) generations.now archetypes.now indices.now pending.now) (tables_of numbers.now counts.now bytes.now) words.now), handles.old) result ((store_of (decl_of rows.now widths.now types.now sizes.now) (ids_of (head_of head.new) generations.now archetypes.now indices.now pending.now) (tables_of numbers.now counts.now bytes.now) words.now), handles.new) }
+    ensures { let lent = store_of (decl_of rows.now widths.now types.now sizes.now) (ids_of (head_of head.old) generations.now archetypes.now indices.now pending.now) (tables_of numbers.now counts.now bytes.now) words.now in
+        let left = store_of (decl_of rows.now widths.now types.now sizes.now) (ids_of (head_of head.new) generations.now archetypes.now indices.now pending.now) (tables_of numbers.now counts.now bytes.now) words.now in
+        Passed (reserving_many lent n handles.old) (lent, handles.old) result (left, handles.new) }
 {
-    let answer = store_reserve::reserve_entities(
-        head_of(head),
-        rows,
-        widths,
-        types,
-        sizes,
-        generations,
-        archetypes,
-        indices,
-        pending,
-        numbers,
-        counts,
-        bytes,
+    let mut store = StoreTables {
+        declaration: Declaration {
+            rows,
+            widths,
+            types,
+            sizes,
+        },
+        ids: IdTables {
+            head: head_of(head),
+            generations,
+            archetypes,
+            indices,
+            pending,
+        },
+        rows: RowTables {
+            numbers,
+            counts,
+            bytes,
+        },
         words,
-        n,
-        handles,
-    );
-    done(head, answer)
+    };
+    let answer = store_reserve::reserve_entities(&mut store, n, handles);
+    put_head(head, store.ids.head);
+    code(answer)
 }
 
 // The handles that are free, into `handles`, whose rest stays. Out: how many.
@@ -107,25 +129,31 @@ pub fn verdict_store_freelist(
     handles: &mut [u64],
     out: &mut [u64; 4],
 ) -> u32
-    ensures { Crossed number_four (listing_free (store_of (decl_of rows.now widths.now types.now sizes.now) (ids_of (head_of head.now) generations.now archetypes.now indices.now pending.now) (tables_of numbers.now counts.now bytes.now) words.now) handles.old) handles.old result out.new handles.new }
+    ensures { let lent = store_of (decl_of rows.now widths.now types.now sizes.now) (ids_of (head_of head.now) generations.now archetypes.now indices.now pending.now) (tables_of numbers.now counts.now bytes.now) words.now in
+        Crossed number_four (listing_free lent handles.old) handles.old result out.new handles.new }
 {
-    let answer = store_reserve::freelist(
-        head_of(head),
-        rows,
-        widths,
-        types,
-        sizes,
-        generations,
-        archetypes,
-        indices,
-        pending,
-        numbers,
-        counts,
-        bytes,
+    let store = StoreTables {
+        declaration: Declaration {
+            rows,
+            widths,
+            types,
+            sizes,
+        },
+        ids: IdTables {
+            head: head_of(head),
+            generations,
+            archetypes,
+            indices,
+            pending,
+        },
+        rows: RowTables {
+            numbers,
+            counts,
+            bytes,
+        },
         words,
-        handles,
-    );
-    counted(out, answer)
+    };
+    cross(out, store_reserve::freelist(&store, handles))
 }
 
 // No entity and no row.
@@ -144,14 +172,20 @@ pub fn verdict_store_clear(
     bytes: &[u8],
     words: &[u64],
 ) -> u32
-    ensures { Passed (clearing (store_of (decl_of rows.now widths.now types.now sizes.now) (ids_of (head_of head.old) generations.now archetypes.now indices.now pending.now) (tables_of numbers.now counts.old bytes.now) words.now)) (store_of (decl_of rows.now widths.now types.now sizes.now) (ids_of (head_of head.old) generations.now archetypes.now indices.now pending.now) (tables_of numbers.now counts.old bytes.now) words.now) result (store_of (decl_of rows.now widths.now types.now sizes.now) (ids_of (head_of head.new) generations.now archetypes.now indices.now pending.now) (tables_of numbers.now counts.new bytes.now) words.now) }
+    ensures { let lent = store_of (decl_of rows.now widths.now types.now sizes.now) (ids_of (head_of head.old) generations.now archetypes.now indices.now pending.now) (tables_of numbers.now counts.old bytes.now) words.now in
+        let left = store_of (decl_of rows.now widths.now types.now sizes.now) (ids_of (head_of head.new) generations.now archetypes.now indices.now pending.now) (tables_of numbers.now counts.new bytes.now) words.now in
+        Passed (clearing lent) lent result left }
 {
-    let answer = store_flush::clear(
-        head_of(head),
+    let declaration = Declaration {
         rows,
         widths,
         types,
         sizes,
+    };
+    let mut left = head_of(head);
+    let answer = store_flush::clear(
+        &mut left,
+        &declaration,
         generations,
         archetypes,
         indices,
@@ -161,5 +195,6 @@ pub fn verdict_store_clear(
         bytes,
         words,
     );
-    done(head, answer)
+    put_head(head, left);
+    code(answer)
 }

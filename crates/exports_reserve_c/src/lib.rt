@@ -28,7 +28,9 @@ pub extern "C" fn verdict_store_reserve_entity(
     words: &[u64],
     out: &mut [u64; 4],
 ) -> u32
-    ensures { Crossed number_four (reserving (store_of (decl_of rows.now widths.now types.now sizes.now) (ids_of (head_of head.old) generations.now archetypes.now indices.now pending.now) (tables_of numbers.now counts.now bytes.now) words.now)) (store_of (decl_of rows.now widths.now types.now sizes.now) (ids_of (head_of head.old) generations.now archetypes.now indices.now pending.now) (tables_of numbers.now counts.now bytes.now) words.now) result out.new (store_of (decl_of rows.now widths.now types.now sizes.now) (ids_of (head_of head.new) generations.now archetypes.now indices.now pending.now) (tables_of numbers.now counts.now bytes.now) words.now) }
+    ensures { let lent = store_of (decl_of rows.now widths.now types.now sizes.now) (ids_of (head_of head.old) generations.now archetypes.now indices.now pending.now) (tables_of numbers.now counts.now bytes.now) words.now in
+        let left = store_of (decl_of rows.now widths.now types.now sizes.now) (ids_of (head_of head.new) generations.now archetypes.now indices.now pending.now) (tables_of numbers.now counts.now bytes.now) words.now in
+        Crossed number_four (reserving lent) lent result out.new left }
 {
     exports_reserve::verdict_store_reserve_entity(
         head,
@@ -67,7 +69,9 @@ pub extern "C" fn verdict_store_reserve_entities(
     n: usize,
     handles: &mut [u64],
 ) -> u32
-    ensures { Passed (reserving_many (store_of (decl_of rows.now widths.now types.now sizes.now) (ids_of (head_of head.old) generations.now archetypes.now indices.now pending.now) (tables_of numbers.now counts.now bytes.now) words.now) n handles.old) ((store_of (decl_of rows.now widths.now types.now sizes.now) (ids_of (head_of head.old) generations.now archetypes.now indices.now pending.now) (tables_of numbers.now counts.now bytes.now) words.now), handles.old) result ((store_of (decl_of rows.now widths.now types.now sizes.now) (ids_of (head_of head.new) generations.now archetypes.now indices.now pending.now) (tables_of numbers.now counts.now bytes.now) words.now), handles.new) }
+    ensures { let lent = store_of (decl_of rows.now widths.now types.now sizes.now) (ids_of (head_of head.old) generations.now archetypes.now indices.now pending.now) (tables_of numbers.now counts.now bytes.now) words.now in
+        let left = store_of (decl_of rows.now widths.now types.now sizes.now) (ids_of (head_of head.new) generations.now archetypes.now indices.now pending.now) (tables_of numbers.now counts.now bytes.now) words.now in
+        Passed (reserving_many lent n handles.old) (lent, handles.old) result (left, handles.new) }
 {
     exports_reserve::verdict_store_reserve_entities(
         head,
@@ -107,7 +111,8 @@ pub extern "C" fn verdict_store_freelist(
     handles: &mut [u64],
     out: &mut [u64; 4],
 ) -> u32
-    ensures { Crossed number_four (listing_free (store_of (decl_of rows.now widths.now types.now sizes.now) (ids_of (head_of head.now) generations.now archetypes.now indices.now pending.now) (tables_of numbers.now counts.now bytes.now) words.now) handles.old) handles.old result out.new handles.new }
+    ensures { let lent = store_of (decl_of rows.now widths.now types.now sizes.now) (ids_of (head_of head.now) generations.now archetypes.now indices.now pending.now) (tables_of numbers.now counts.now bytes.now) words.now in
+        Crossed number_four (listing_free lent handles.old) handles.old result out.new handles.new }
 {
     exports_reserve::verdict_store_freelist(
         head,
@@ -145,7 +150,9 @@ pub extern "C" fn verdict_store_clear(
     bytes: &[u8],
     words: &[u64],
 ) -> u32
-    ensures { Passed (clearing (store_of (decl_of rows.now widths.now types.now sizes.now) (ids_of (head_of head.old) generations.now archetypes.now indices.now pending.now) (tables_of numbers.now counts.old bytes.now) words.now)) (store_of (decl_of rows.now widths.now types.now sizes.now) (ids_of (head_of head.old) generations.now archetypes.now indices.now pending.now) (tables_of numbers.now counts.old bytes.now) words.now) result (store_of (decl_of rows.now widths.now types.now sizes.now) (ids_of (head_of head.new) generations.now archetypes.now indices.now pending.now) (tables_of numbers.now counts.new bytes.now) words.now) }
+    ensures { let lent = store_of (decl_of rows.now widths.now types.now sizes.now) (ids_of (head_of head.old) generations.now archetypes.now indices.now pending.now) (tables_of numbers.now counts.old bytes.now) words.now in
+        let left = store_of (decl_of rows.now widths.now types.now sizes.now) (ids_of (head_of head.new) generations.now archetypes.now indices.now pending.now) (tables_of numbers.now counts.new bytes.now) words.now in
+        Passed (clearing lent) lent result left }
 {
     exports_reserve::verdict_store_clear(
         head,

@@ -18,8 +18,3 @@ module _ {A : Type 0} {rule : Answer (A × Store)} {lent : Store} {said : Answer
 
   pub passed_store : Did rule lent said (store_of d (ids_of h g a x p) w b) → code ≡ code_of said → h' ≡ h → Passed rule lent code (store_of d (ids_of h' g a x p) w b)
   passed_store did c e = rw e (passed did c)
-
--- and where an output of handles is lent too
-pub passed_store_out : {A : Type 0} {rule : Answer (A × (Store × List ℕ))} {lent : Store × List ℕ} {said : Answer A} {code : ℕ} {d : Decl} {h h' : Head} {g a x p o : List ℕ} {w : Rows} {b : List ℕ}
-    → Did rule lent said (store_of d (ids_of h g a x p) w b, o) → code ≡ code_of said → h' ≡ h → Passed rule lent code (store_of d (ids_of h' g a x p) w b, o)
-passed_store_out did c e = rw e (passed did c)

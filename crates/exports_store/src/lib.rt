@@ -1,4 +1,4 @@
-// What another language links of the store's spawn and despawn. Every call answers the refusal's number, 0 where it is granted; a head is four numbers: used, pending, the cursor in two's complement, live.
+// What another language links of the store's spawn and despawn. Every call answers the refusal's number, 0 where it is granted; a head is four numbers: used, pending, the cursor in two's complement, live. Each takes its tables as slices side by side, since C lends them so, and makes the views of them.
 #![tactic(auto)]
 
 ghost use Rattle.store_spawn.specs.Spawn.{spawning};
@@ -10,7 +10,8 @@ ghost use Rattle.row_step.specs.Tables.{tables_of};
 ghost use Rattle.store_tables.specs.Store.{store_of};
 ghost use Rattle.crossing.specs.Words.{head_of};
 
-use crossing::{done, given, head_of};
+use crossing::{code, cross, head_of, put_head};
+use decl::Declaration;
 
 // An entity in an archetype, with the bytes of its components in column order. Out: the handle.
 pub fn verdict_store_spawn(
@@ -31,14 +32,20 @@ pub fn verdict_store_spawn(
     run: &[u8],
     out: &mut [u64; 4],
 ) -> u32
-    ensures { Crossed number_four (spawning (store_of (decl_of rows.now widths.now types.now sizes.now) (ids_of (head_of head.old) generations.old archetypes.old indices.old pending.now) (tables_of numbers.old counts.old bytes.old) words.now) archetype run.now) (store_of (decl_of rows.now widths.now types.now sizes.now) (ids_of (head_of head.old) generations.old archetypes.old indices.old pending.now) (tables_of numbers.old counts.old bytes.old) words.now) result out.new (store_of (decl_of rows.now widths.now types.now sizes.now) (ids_of (head_of head.new) generations.new archetypes.new indices.new pending.now) (tables_of numbers.new counts.new bytes.new) words.now) }
+    ensures { let lent = store_of (decl_of rows.now widths.now types.now sizes.now) (ids_of (head_of head.old) generations.old archetypes.old indices.old pending.now) (tables_of numbers.old counts.old bytes.old) words.now in
+        let left = store_of (decl_of rows.now widths.now types.now sizes.now) (ids_of (head_of head.new) generations.new archetypes.new indices.new pending.now) (tables_of numbers.new counts.new bytes.new) words.now in
+        Crossed number_four (spawning lent archetype run.now) lent result out.new left }
 {
-    let answer = store_spawn::spawn(
-        head_of(head),
+    let declaration = Declaration {
         rows,
         widths,
         types,
         sizes,
+    };
+    let mut left = head_of(head);
+    let answer = store_spawn::spawn(
+        &mut left,
+        &declaration,
         generations,
         archetypes,
         indices,
@@ -50,7 +57,8 @@ pub fn verdict_store_spawn(
         archetype,
         run,
     );
-    given(head, out, answer)
+    put_head(head, left);
+    cross(out, answer)
 }
 
 // An entity and its row leave.
@@ -70,14 +78,20 @@ pub fn verdict_store_despawn(
     words: &[u64],
     bits: u64,
 ) -> u32
-    ensures { Passed (despawning (store_of (decl_of rows.now widths.now types.now sizes.now) (ids_of (head_of head.old) generations.old archetypes.old indices.old pending.old) (tables_of numbers.old counts.old bytes.old) words.now) bits) (store_of (decl_of rows.now widths.now types.now sizes.now) (ids_of (head_of head.old) generations.old archetypes.old indices.old pending.old) (tables_of numbers.old counts.old bytes.old) words.now) result (store_of (decl_of rows.now widths.now types.now sizes.now) (ids_of (head_of head.new) generations.new archetypes.new indices.new pending.new) (tables_of numbers.new counts.new bytes.new) words.now) }
+    ensures { let lent = store_of (decl_of rows.now widths.now types.now sizes.now) (ids_of (head_of head.old) generations.old archetypes.old indices.old pending.old) (tables_of numbers.old counts.old bytes.old) words.now in
+        let left = store_of (decl_of rows.now widths.now types.now sizes.now) (ids_of (head_of head.new) generations.new archetypes.new indices.new pending.new) (tables_of numbers.new counts.new bytes.new) words.now in
+        Passed (despawning lent bits) lent result left }
 {
-    let answer = store_despawn::despawn(
-        head_of(head),
+    let declaration = Declaration {
         rows,
         widths,
         types,
         sizes,
+    };
+    let mut left = head_of(head);
+    let answer = store_despawn::despawn(
+        &mut left,
+        &declaration,
         generations,
         archetypes,
         indices,
@@ -88,5 +102,6 @@ pub fn verdict_store_despawn(
         words,
         bits,
     );
-    done(head, answer)
+    put_head(head, left);
+    code(answer)
 }

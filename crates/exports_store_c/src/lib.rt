@@ -30,7 +30,9 @@ pub extern "C" fn verdict_store_spawn(
     run: &[u8],
     out: &mut [u64; 4],
 ) -> u32
-    ensures { Crossed number_four (spawning (store_of (decl_of rows.now widths.now types.now sizes.now) (ids_of (head_of head.old) generations.old archetypes.old indices.old pending.now) (tables_of numbers.old counts.old bytes.old) words.now) archetype run.now) (store_of (decl_of rows.now widths.now types.now sizes.now) (ids_of (head_of head.old) generations.old archetypes.old indices.old pending.now) (tables_of numbers.old counts.old bytes.old) words.now) result out.new (store_of (decl_of rows.now widths.now types.now sizes.now) (ids_of (head_of head.new) generations.new archetypes.new indices.new pending.now) (tables_of numbers.new counts.new bytes.new) words.now) }
+    ensures { let lent = store_of (decl_of rows.now widths.now types.now sizes.now) (ids_of (head_of head.old) generations.old archetypes.old indices.old pending.now) (tables_of numbers.old counts.old bytes.old) words.now in
+        let left = store_of (decl_of rows.now widths.now types.now sizes.now) (ids_of (head_of head.new) generations.new archetypes.new indices.new pending.now) (tables_of numbers.new counts.new bytes.new) words.now in
+        Crossed number_four (spawning lent archetype run.now) lent result out.new left }
 {
     exports_store::verdict_store_spawn(
         head,
@@ -70,7 +72,9 @@ pub extern "C" fn verdict_store_despawn(
     words: &[u64],
     bits: u64,
 ) -> u32
-    ensures { Passed (despawning (store_of (decl_of rows.now widths.now types.now sizes.now) (ids_of (head_of head.old) generations.old archetypes.old indices.old pending.old) (tables_of numbers.old counts.old bytes.old) words.now) bits) (store_of (decl_of rows.now widths.now types.now sizes.now) (ids_of (head_of head.old) generations.old archetypes.old indices.old pending.old) (tables_of numbers.old counts.old bytes.old) words.now) result (store_of (decl_of rows.now widths.now types.now sizes.now) (ids_of (head_of head.new) generations.new archetypes.new indices.new pending.new) (tables_of numbers.new counts.new bytes.new) words.now) }
+    ensures { let lent = store_of (decl_of rows.now widths.now types.now sizes.now) (ids_of (head_of head.old) generations.old archetypes.old indices.old pending.old) (tables_of numbers.old counts.old bytes.old) words.now in
+        let left = store_of (decl_of rows.now widths.now types.now sizes.now) (ids_of (head_of head.new) generations.new archetypes.new indices.new pending.new) (tables_of numbers.new counts.new bytes.new) words.now in
+        Passed (despawning lent bits) lent result left }
 {
     exports_store::verdict_store_despawn(
         head,

@@ -4,18 +4,20 @@ use Prim.Native.Nat.{ℕ}
 use mathlib.Core.Path.{◌≡◌, sym, ◌∙◌}
 use Rattle.refusal.specs.Laws.{sole_answer}
 use Rattle.handle.specs.declared.Number.{Number}
-use Rattle.handle.specs.declared.Bits.{Bits}
-use Rattle.handle.specs.Bits.{bits_of, number_in, generation_in, answer_of, from_bits, new_handle}
+use Rattle.handle.specs.declared.Handle.{Handle}
+use Rattle.refusal.specs.declared.Refusal.{Refusal}
+use Rattle.std.specs.Prelude.{Result}
+use Rattle.handle.specs.Bits.{bits_of, number_in, generation_in, handle_of, from_bits, new_handle}
 use Rattle.handle.specs.RoundTrip.{tells, same_number}
 
 pub bits_of_lem : (generation number : ℕ) (r s : ℕ) → r ≡ bits_of generation number → s ≡ bits_of generation number → r ≡ s
 bits_of_lem generation number r s d e = d ∙ sym e
 
-pub new : (number generation : ℕ) (r s : Bits) → answer_of r ≡ new_handle number generation → answer_of s ≡ new_handle number generation → r ≡ s
-new number generation r s d e = sole_answer answer_of tells r s d e
+pub new : (number generation : ℕ) (r s : Result Handle Refusal) → handle_of r ≡ new_handle number generation → handle_of s ≡ new_handle number generation → r ≡ s
+new number generation r s d e = sole_answer handle_of tells r s d e
 
-pub from_bits_lem : (bits : ℕ) (r s : Bits) → answer_of r ≡ from_bits bits → answer_of s ≡ from_bits bits → r ≡ s
-from_bits_lem bits r s d e = sole_answer answer_of tells r s d e
+pub from_bits_lem : (bits : ℕ) (r s : Result Handle Refusal) → handle_of r ≡ from_bits bits → handle_of s ≡ from_bits bits → r ≡ s
+from_bits_lem bits r s d e = sole_answer handle_of tells r s d e
 
 pub to_bits : (bits : ℕ) (r s : ℕ) → r ≡ bits → s ≡ bits → r ≡ s
 to_bits bits r s d e = d ∙ sym e

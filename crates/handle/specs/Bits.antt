@@ -1,10 +1,9 @@
 -- What the bits of a handle say, and what the two calls that make a handle answer.
-use Rattle.std.specs.Prelude.{ℕ, ◌+◌, ◌*◌, ◌/◌, ◌%◌, ◌^◌, [], ◌∷◌, eqb}
-use Rattle.refusal.specs.Number.{number_of}
-use Rattle.refusal.specs.Table.{Answer, granted, refused, ◌when◌, ◌otherwise◌}
+use Rattle.std.specs.Prelude.{ℕ, ◌+◌, ◌*◌, ◌/◌, ◌%◌, ◌^◌, [], ◌∷◌, eqb, Result}
+use Rattle.refusal.specs.declared.Refusal.{Refusal}
+use Rattle.refusal.specs.Table.{Answer, answer_by, ◌when◌, ◌otherwise◌}
 use Rattle.handle.specs.declared.Place.{Place}
-use Rattle.handle.specs.declared.Bits.{Bits}
-use Rattle.handle.specs.declared.Bits.TheVariants.{Good, Refused}
+use Rattle.handle.specs.declared.Handle.{Handle}
 
 -- the largest 32-bit number: the index of a number that has no row
 abbrev pub MAX : ℕ
@@ -23,10 +22,9 @@ generation_in bits = bits / 2 ^ 32
 abbrev pub number_in : ℕ → ℕ
 number_in bits = bits % 2 ^ 32
 
--- the document's number and value of each case: the handle's bits, or the refusal's number
-abbrev pub answer_of : Bits → Answer ℕ
-answer_of (Good h) = granted h.0
-answer_of (Refused r) = refused (number_of r)
+-- the document's number and value of a handle or a refusal: the handle's bits, or the refusal's number
+abbrev pub handle_of : Result Handle Refusal → Answer ℕ
+handle_of = answer_by (λ h. h.0)
 
 -- a handle whose high half is zero is refused
 unfoldable pub from_bits : ℕ → Answer ℕ

@@ -1,6 +1,6 @@
 -- A call on a handle's bits: its first tests, then 5 for a zero generation, then what is said of the generation and the number.
 use Prim.{tt}
-use Rattle.std.specs.Prelude.{ℕ, ◌≡◌, List, [], ◌∷◌, ◌++◌}
+use Rattle.std.specs.Prelude.{ℕ, ◌≡◌, List, [], ◌∷◌, ◌++◌, Result, Ok, Err}
 use Rattle.std.proofs.Common.{◌∙◌}
 use borrow.Author.Tests.{ne_eqb, eqb-false}
 use Rattle.std.proofs.Math.Dec.{eqb}
@@ -8,9 +8,7 @@ use Rattle.refusal.specs.Table.{Rule, ◌when◌, Answer, granted, refused, ◌o
 use Rattle.refusal.specs.Laws.{stop, go, passed_all, both, none_holds}
 use Rattle.refusal.specs.declared.Refusal.{Refusal}
 use Rattle.handle.specs.declared.Handle.{Handle}
-use Rattle.handle.specs.declared.Bits.{Bits}
-use Rattle.handle.specs.declared.Bits.TheVariants.{Good, Refused}
-use Rattle.handle.specs.Bits.{generation_in, number_in, answer_of, from_bits}
+use Rattle.handle.specs.Bits.{generation_in, number_in, handle_of, from_bits}
 use Rattle.handle.specs.RoundTrip.{good, bad}
 
 unfoldable pub on_bits : {A : Type 0} → List Rule → ℕ → (ℕ → ℕ → Answer A) → Answer A
@@ -23,12 +21,12 @@ module _ {A : Type 0} (first : List Rule) (bits : ℕ) (rest : ℕ → ℕ → A
   on_first e = stop first _ _ e
 
   -- they pass, and `from_bits` refuses
-  pub on_zero : (r : Bits) (x : Refusal) → granted tt ≡ passing first → answer_of r ≡ from_bits bits → r ≡ Refused x → on_bits first bits rest ≡ refused 5
+  pub on_zero : (r : Result Handle Refusal) (x : Refusal) → granted tt ≡ passing first → handle_of r ≡ from_bits bits → r ≡ Err x → on_bits first bits rest ≡ refused 5
   unfolding on_bits ◌or_else◌
   on_zero r x e a p = go first _ _ e ∙ rw (bad bits r x a p)
 
   -- they pass, and `from_bits` gives a handle: the rest speaks of it
-  pub on_good : (r : Bits) (h : Handle) → granted tt ≡ passing first → answer_of r ≡ from_bits bits → r ≡ Good h
+  pub on_good : (r : Result Handle Refusal) (h : Handle) → granted tt ≡ passing first → handle_of r ≡ from_bits bits → r ≡ Ok h
       → on_bits first bits rest ≡ rest (generation_in h.0) (number_in h.0)
   unfolding on_bits ◌or_else◌
   on_good r h e a p = let g = good bits r h a p in go first _ _ e ∙ rw (g.1, g.0)

@@ -2,7 +2,7 @@
 #![tactic(auto)]
 
 ghost use Rattle.std.specs.Prelude.{◌≡◌};
-ghost use Rattle.handle.specs.Bits.{MAX, bits_of, number_in, generation_in, answer_of, from_bits, new_handle};
+ghost use Rattle.handle.specs.Bits.{MAX, bits_of, number_in, generation_in, handle_of, from_bits, new_handle};
 
 use refusal::Refusal;
 
@@ -10,29 +10,22 @@ use refusal::Refusal;
 pub const MAX: u32 = 0xffff_ffff;
 
 // The number of an entity.
-#[derive(Clone, Copy)]
+#[derive(Clone, Copy, Debug, PartialEq, Eq)]
 pub struct Number(pub u32);
 
 // A row of an archetype.
-#[derive(Clone, Copy)]
+#[derive(Clone, Copy, Debug, PartialEq, Eq, PartialOrd, Ord)]
 pub struct Row(pub u32);
 
 // An entity as its user holds it. Its generation is never 0: the field is shut, and what makes a handle refuses that.
-#[derive(Clone, Copy)]
+#[derive(Clone, Copy, Debug, PartialEq, Eq)]
 pub struct Handle(u64);
 
 // Where an entity's components are.
-#[derive(Clone, Copy)]
+#[derive(Clone, Copy, Debug, PartialEq, Eq)]
 pub struct Place {
     pub archetype: u32,
     pub index: Row,
-}
-
-// A handle, or why there is none.
-#[derive(Clone, Copy)]
-pub enum Bits {
-    Good(Handle),
-    Refused(Refusal),
 }
 
 impl Place {
@@ -55,22 +48,22 @@ impl Handle {
     // A handle that need name no entity.
     pub const DANGLING: Handle = Handle(0xffff_ffff_ffff_ffff);
 
-    pub fn new(number: Number, generation: u32) -> Bits
-        ensures { answer_of result ≡ new_handle number.0 generation }
+    pub fn new(number: Number, generation: u32) -> Result<Handle, Refusal>
+        ensures { handle_of result ≡ new_handle number.0 generation }
     {
         if generation == 0 {
-            return Bits::Refused(Refusal::ZeroGeneration);
+            return Err(Refusal::ZeroGeneration);
         }
-        Bits::Good(Handle(bits_of(generation, number)))
+        Ok(Handle(bits_of(generation, number)))
     }
 
-    pub fn from_bits(bits: u64) -> Bits
-        ensures { answer_of result ≡ from_bits bits }
+    pub fn from_bits(bits: u64) -> Result<Handle, Refusal>
+        ensures { handle_of result ≡ from_bits bits }
     {
         if bits >> 32 == 0 {
-            return Bits::Refused(Refusal::ZeroGeneration);
+            return Err(Refusal::ZeroGeneration);
         }
-        Bits::Good(Handle(bits))
+        Ok(Handle(bits))
     }
 
     pub fn to_bits(self) -> u64

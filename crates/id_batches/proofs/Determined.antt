@@ -1,82 +1,70 @@
 -- The contracts determine the result and what is left of everything lent: no second result fits. One instance a function, under its name.
+-- Of a view of the tables they determine what it reads: its head, and the lists behind its slices.
 -- Assumes nothing.
+use Prim.{Unit}
 use Prim.Native.Nat.{ℕ}
 use mathlib.Core.Path.{◌≡◌, refl, sym, ap, ◌∙◌}
 use mathlib.Core.List.{List}
-use Rattle.refusal.specs.Table.{Did}
+use Rattle.std.specs.Prelude.{Result, Ok, Err, Some, None, Option}
+use Rattle.refusal.specs.declared.Refusal.{Refusal}
+use Rattle.refusal.specs.Table.{Did, answer_of, answer_by}
 use Rattle.refusal.specs.Laws.{determined, sole}
-use Rattle.refusal.specs.Distinct.{number_inj}
+use Rattle.refusal.specs.Distinct.{number_inj, tells}
+use Rattle.handle.specs.declared.Number.{Number}
 use Rattle.handle.specs.RoundTrip.{same_number}
 use Rattle.id_tables.specs.declared.head.Head.{Head}
-use Rattle.id_tables.specs.declared.lookup.Counted.{Counted}
-use Rattle.id_tables.specs.declared.lookup.Done.{Done}
 use Rattle.id_tables.specs.Ids.{Ids, ids_of}
-use Rattle.id_tables.specs.Lookup.{counted_of, done_of, head_after}
-use Rattle.id_tables.proofs.Determined.{counted_tells, done_tells}
 use Rattle.id_batches.specs.declared.many.AllocManyState.{AllocManyState}
-use Rattle.id_batches.specs.declared.many.AllocedMany.{AllocedMany}
-use Rattle.id_batches.specs.declared.many.AllocedMany.TheVariants as alloced
-use Rattle.id_batches.specs.declared.many.Walked.{Walked}
-use Rattle.id_batches.specs.declared.many.Walked.TheVariants as walked
 use Rattle.id_batches.specs.Reserve.{reserving}
 use Rattle.id_batches.specs.Freelist.{listing}
 use Rattle.id_batches.specs.Flush.{flushing}
-use Rattle.id_batches.specs.AllocMany.{allocating_many, alloced_of, head_after_many, walking, walked_of, state_after, left_in}
+use Rattle.id_batches.specs.AllocMany.{allocating_many, walking, walked_of, state_after, left_in}
 
--- the document's answer, with what it leaves, is that of one result
-alloced_tells : (h : Head) (r s : AllocedMany) → alloced_of r ≡ alloced_of s → head_after_many h r ≡ head_after_many h s → r ≡ s
-alloced_tells h (alloced.Granted a v) (alloced.Granted b w) e l = let q : v ≡ w = cc in rw (l, q)
-alloced_tells h (alloced.Granted a v) (alloced.Refused y) e l = cc
-alloced_tells h (alloced.Refused x) (alloced.Granted b w) e l = cc
-alloced_tells h (alloced.Refused x) (alloced.Refused y) e l = ap alloced.Refused (number_inj x y (cc))
-
-walked_tells : (w : AllocManyState) (r s : Walked) → walked_of r ≡ walked_of s → state_after w r ≡ state_after w s → r ≡ s
-walked_tells w (walked.Number a v) (walked.Number b u) e l = let q : a ≡ b = same_number a b (cc) in rw (q, l)
-walked_tells w (walked.Number a v) walked.Done e l = cc
-walked_tells w (walked.Number a v) (walked.Refused y) e l = cc
-walked_tells w walked.Done (walked.Number b u) e l = cc
-walked_tells w walked.Done walked.Done e l = refl
-walked_tells w walked.Done (walked.Refused y) e l = cc
-walked_tells w (walked.Refused x) (walked.Number b u) e l = cc
-walked_tells w (walked.Refused x) walked.Done e l = cc
-walked_tells w (walked.Refused x) (walked.Refused y) e l = ap walked.Refused (number_inj x y (cc))
+-- the document's answer, with the state that it leaves, is that of one result
+walked_tells : (w : AllocManyState) (r s : Result (Option (Number × AllocManyState)) Refusal) → answer_by walked_of r ≡ answer_by walked_of s → state_after w r ≡ state_after w s → r ≡ s
+walked_tells w (Ok (Some x)) (Ok (Some y)) e l = let q : x.0 ≡ y.0 = same_number x.0 y.0 (cc) in λ i. Ok (Some (q i, l i))
+walked_tells w (Ok (Some x)) (Ok None) e l = cc
+walked_tells w (Ok (Some x)) (Err y) e l = cc
+walked_tells w (Ok None) (Ok (Some y)) e l = cc
+walked_tells w (Ok None) (Ok None) e l = refl
+walked_tells w (Ok None) (Err y) e l = cc
+walked_tells w (Err x) (Ok (Some y)) e l = cc
+walked_tells w (Err x) (Ok None) e l = cc
+walked_tells w (Err x) (Err y) e l = ap Err (number_inj x y (cc))
 
 module _ (s : Ids) where
-  abbrev headed : Head → Ids
-  headed h = ids_of h s.generations s.archetypes s.indices s.pending
+  pub reserve_entities_lem : (n : ℕ) (out : List ℕ) (r r' : Result (Unit {0}) Refusal) (t t' : Ids) (o o' : List ℕ) → Did (reserving s n out) (s, out) (answer_of r) (t, o)
+      → Did (reserving s n out) (s, out) (answer_of r') (t', o') → (r ≡ r') × (t ≡ t') × (o ≡ o')
+  reserve_entities_lem n out r r' t t' o o' d e =
+      let p = sole answer_of tells r r' d e in (p.0, ap (λ (u : Ids × List ℕ). u.0) p.1, ap (λ (u : Ids × List ℕ). u.1) p.1)
 
-  pub reserve_entities_lem : (n : ℕ) (out : List ℕ) (r r' : Done) (o o' : List ℕ) → Did (reserving s n out) (s, out) (done_of r) (headed (head_after s.head r), o)
-      → Did (reserving s n out) (s, out) (done_of r') (headed (head_after s.head r'), o') → (r ≡ r') × (o ≡ o')
-  reserve_entities_lem n out r r' o o' d e =
-      let p = determined d e in
-      (done_tells s.head r r' p.0 (ap (λ (t : Ids × List ℕ). t.0.head) p.1), ap (λ (t : Ids × List ℕ). t.1) p.1)
+  pub freelist : (out : List ℕ) (r r' : Result ℕ Refusal) (o o' : List ℕ) → Did (listing s out) out (answer_of r) o → Did (listing s out) out (answer_of r') o' → (r ≡ r') × (o ≡ o')
+  freelist out r r' o o' d e = sole answer_of tells r r' d e
 
-  pub freelist : (out : List ℕ) (r r' : Counted) (o o' : List ℕ) → Did (listing s out) out (counted_of r) o → Did (listing s out) out (counted_of r') o' → (r ≡ r') × (o ≡ o')
-  freelist out r r' o o' d e = sole counted_of counted_tells r r' d e
+  module _ (h h' : Head) (g a x g' a' x' : List ℕ) where
+    abbrev left : Ids
+    left = ids_of h g a x s.pending
 
-  abbrev left : Head → List ℕ → List ℕ → List ℕ → Ids
-  left h g a x = ids_of h g a x s.pending
+    abbrev left' : Ids
+    left' = ids_of h' g' a' x' s.pending
 
-  module _ (g a x g' a' x' : List ℕ) where
     abbrev same : Type 0
-    same = (g ≡ g') × (a ≡ a') × (x ≡ x')
+    same = (h ≡ h') × (g ≡ g') × (a ≡ a') × (x ≡ x')
 
-    tables : {h h' : Head} → left h g a x ≡ left h' g' a' x' → same
-    tables e = (ap (λ (t : Ids). t.generations) e, ap (λ (t : Ids). t.archetypes) e, ap (λ (t : Ids). t.indices) e)
+    tables : left ≡ left' → same
+    tables e = (ap (λ (t : Ids). t.head) e, ap (λ (t : Ids). t.generations) e, ap (λ (t : Ids). t.archetypes) e, ap (λ (t : Ids). t.indices) e)
 
-    pub flush : (archetype first : ℕ) (r r' : Done) → Did (flushing s archetype first) s (done_of r) (left (head_after s.head r) g a x)
-        → Did (flushing s archetype first) s (done_of r') (left (head_after s.head r') g' a' x') → (r ≡ r') × same
-    flush archetype first r r' d e =
-        let p = determined d e in (done_tells s.head r r' p.0 (ap (λ (t : Ids). t.head) p.1), tables p.1)
+    pub flush : (archetype first : ℕ) (r r' : Result (Unit {0}) Refusal) → Did (flushing s archetype first) s (answer_of r) left → Did (flushing s archetype first) s (answer_of r') left' → (r ≡ r') × same
+    flush archetype first r r' d e = let p = sole answer_of tells r r' d e in (p.0, tables p.1)
 
-    pub alloc_many : (n archetype first : ℕ) (r r' : AllocedMany) → Did (allocating_many s n archetype first) s (alloced_of r) (left (head_after_many s.head r) g a x)
-        → Did (allocating_many s n archetype first) s (alloced_of r') (left (head_after_many s.head r') g' a' x') → (r ≡ r') × same
-    alloc_many n archetype first r r' d e =
-        let p = determined d e in (alloced_tells s.head r r' p.0 (ap (λ (t : Ids). t.head) p.1), tables p.1)
+    pub alloc_many : (n archetype first : ℕ) (r r' : Result AllocManyState Refusal) → Did (allocating_many s n archetype first) s (answer_of r) left
+        → Did (allocating_many s n archetype first) s (answer_of r') left' → (r ≡ r') × same
+    alloc_many n archetype first r r' d e = let p = sole answer_of tells r r' d e in (p.0, tables p.1)
 
 -- the state of an alloc many
 module _ (w : AllocManyState) where
-  pub next : (pending : List ℕ) (r r' : Walked) → Did (walking w pending) w (walked_of r) (state_after w r) → Did (walking w pending) w (walked_of r') (state_after w r') → r ≡ r'
+  pub next : (pending : List ℕ) (r r' : Result (Option (Number × AllocManyState)) Refusal) → Did (walking w pending) w (answer_by walked_of r) (state_after w r)
+      → Did (walking w pending) w (answer_by walked_of r') (state_after w r') → r ≡ r'
   next pending r r' d e = let p = determined d e in walked_tells w r r' p.0 p.1
 
   pub len : (r r' : ℕ) → r ≡ left_in w → r' ≡ left_in w → r ≡ r'

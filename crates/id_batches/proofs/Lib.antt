@@ -1,5 +1,7 @@
 -- Laws that the proofs of this crate share, and those that callers cite.
 pub mod Setting
+mod Writing
+pub mod Upward
 mod Ways
 pub mod Numbers
 pub mod Granted
@@ -10,3 +12,4 @@ pub mod Seats
 pub mod Handed
 pub mod Walks
 pub mod Determined
+pub mod Heads

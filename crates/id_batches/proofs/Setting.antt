@@ -1,6 +1,6 @@
 -- Entries of a table that are set one after the other: a loop's step, two runs that make one, and what stands where.
 -- Assumes nothing.
-use Prim.Native.Nat.{ℕ, zero, suc, ◌+◌, ◌-◌, ◌<◌, ◌≤◌, min}
+use Prim.Native.Nat.{ℕ, zero, suc, ◌+◌, ◌-◌, ◌<◌, ◌≤◌}
 use mathlib.Core.Path.{◌≡◌, refl, sym, ap, ◌∙◌}
 use mathlib.Core.List.{List, [], ◌∷◌, ◌++◌, map}
 use native.Mathlib.Omega.{arith}
@@ -10,7 +10,6 @@ use lib.ListN.{length, get_or, drop, set, replicate, length-append, length-set, 
 use lib.Seq.{drop-cons, sets, sets-eq}
 use Rattle.handle.specs.Bits.{bits_of}
 use Rattle.id_tables.specs.Runs.{up_from, up_from_none, up_from_cons, length_up_from, up_from_at}
-use Rattle.id_tables.proofs.Filling.{run_ends}
 use Rattle.id_batches.specs.Seating.{set_each, set_all, set_rows}
 use Rattle.id_batches.specs.Reserve.{old_handles, new_handles}
 
@@ -65,25 +64,11 @@ module _ {l₀ l l' ns : List ℕ} {i : ℕ} (v n : ℕ) where
   pub row_next : Rest l₀ l ns (up_from v (length ns)) i → i < length ns → n ≡ get_or ns i 0 → l' ≡ set l n (v + i) → Rest l₀ l' ns (up_from v (length ns)) (i + 1)
   row_next e h p r = rest_next e h (up_in v h) p (up_here v h) r
 
--- the next place from a on is set to what f says of the next of these
+-- what stands in a list of values made of numbers
 map_at : (f : ℕ → ℕ) (ns : List ℕ) (i : ℕ) → i < length ns → get_or (map f ns) i 0 ≡ f (get_or ns i 0)
 map_at f [] i h = absurd (not-suc-le-zero h)
 map_at f (n ∷ ns) zero h = refl
 map_at f (n ∷ ns) (suc i) h = map_at f ns i (le_of_suc-le-suc h)
-
-module _ {l₀ l : List ℕ} {i : ℕ} (a k n p v : ℕ) where
-  map_next : (f : ℕ → ℕ) (ns : List ℕ) → Rest l₀ l (up_from a k) (map f ns) i → i < k → i < length ns → p ≡ a + i → n ≡ get_or ns i 0 → v ≡ f n → Rest l₀ (set l p v) (up_from a k) (map f ns) (i + 1)
-  map_next f ns e h j at is to = rest_next e (up_in a h) (rw (length-map ns f) j) (at ∙ up_here a h) (to ∙ ap f is ∙ sym (map_at f ns i j)) refl
-
-  pub old_next : (generations ns : List ℕ) → Rest l₀ l (up_from a k) (old_handles generations ns) i → i < k → i < length ns → p ≡ a + i → n ≡ get_or ns i 0 → v ≡ bits_of (get_or generations n 0) n
-      → Rest l₀ (set l p v) (up_from a k) (old_handles generations ns) (i + 1)
-  unfolding old_handles
-  old_next generations ns = map_next (λ n. bits_of (get_or generations n 0) n) ns
-
-  pub new_next : (ns : List ℕ) → Rest l₀ l (up_from a k) (new_handles ns) i → i < k → i < length ns → p ≡ a + i → n ≡ get_or ns i 0 → v ≡ bits_of 1 n
-      → Rest l₀ (set l p v) (up_from a k) (new_handles ns) (i + 1)
-  unfolding new_handles
-  new_next ns = map_next (bits_of 1) ns
 
 -- two runs, the one after the other, are one
 pub set_two : (l ms ns us vs : List ℕ) → length ms ≡ length us → set_each l (ms ++ ns) (us ++ vs) ≡ set_each (set_each l ms us) ns vs
@@ -105,12 +90,12 @@ module _ (l ms ns : List ℕ) (v : ℕ) where
       (set_two l ms ns (up_from v (length ms)) (up_from (v + length ms) (length ns)) (sym (length_up_from v (length ms))))
 
 -- a run of places from a on
-run_sets : (l vs : List ℕ) (a : ℕ) → set_each l (up_from a (length vs)) vs ≡ sets l a vs
+pub run_sets : (l vs : List ℕ) (a : ℕ) → set_each l (up_from a (length vs)) vs ≡ sets l a vs
 unfolding set_each
 run_sets l [] a = rw (up_from_none a)
 run_sets l (v ∷ vs) a = rw (up_from_cons a (length vs), add-one a) (run_sets (set l a v) vs (suc a))
 
--- where the run is as long as this, one value in all of it, or successive rows
+-- where the run is as long as this, one value in all of it
 module _ (l : List ℕ) (a k v : ℕ) where
   same_long : (a + k) - a ≡ k
   same_long = omega arith
@@ -119,19 +104,6 @@ module _ (l : List ℕ) (a k v : ℕ) where
   run_same =
       rw (same_long, length_up_from a k)
       (sym (rw (length-replicate k v) at (run_sets l (replicate k v) a)))
-
-  pub run_rows : sets l a (up_from v ((a + k) - a)) ≡ set_rows l (up_from a k) v
-  run_rows =
-      rw (same_long, length_up_from a k)
-      (sym (rw (length_up_from v k) at (run_sets l (up_from v k) a)))
-
--- successive values in the entries i to an end that the table has: one turn of the loop, and its end
-module _ (l : List ℕ) (i to v : ℕ) where
-  pub number_one : i < to → sets l i (up_from v (to - i)) ≡ sets (set l i v) (i + 1) (up_from (v + 1) (to - (i + 1)))
-  number_one h = let e : to - i ≡ suc (to - (i + 1)) = omega arith in rw (e, up_from_cons v (to - (i + 1)), add-one i)
-
-  pub number_none : min to (length l) ≤ i → sets l i (up_from v (to - i)) ≡ l
-  number_none h = run_ends l i to (up_from v (to - i)) (length_up_from v (to - i)) h
 
 pub front_set : (l vs : List ℕ) → length vs ≤ length l → set_each l (up_from 0 (length vs)) vs ≡ vs ++ drop (length vs) l
 front_set l vs h = run_sets l vs 0 ∙ sets-eq vs l 0 (omega arith) ∙ rw (zero-add (length vs))
@@ -145,17 +117,25 @@ front_two l us vs h =
     ∙ rw (← e, ← length-append us vs) (front_set l (us ++ vs) (rw (length-append us vs) h))
 
 -- handles at the front of an output
+pub new_long : (ms : List ℕ) → length (new_handles ms) ≡ length ms
+unfolding new_handles
+new_long ms = length-map ms (bits_of 1)
+
+pub old_at : (generations ns : List ℕ) (i : ℕ) → i < length ns → get_or (old_handles generations ns) i 0 ≡ bits_of (get_or generations (get_or ns i 0) 0) (get_or ns i 0)
+unfolding old_handles
+old_at generations ns i h = map_at (λ n. bits_of (get_or generations n 0) n) ns i h
+
+pub new_at : (from count i : ℕ) → i < count → get_or (new_handles (up_from from count)) i 0 ≡ bits_of 1 (from + i)
+unfolding new_handles
+new_at from count i h = map_at (bits_of 1) (up_from from count) i (rw (length_up_from from count) h) ∙ ap (bits_of 1) (up_from_at from count i h)
+
 module _ (generations ns : List ℕ) {k : ℕ} (e : length ns ≡ k) where
-  old_long : length (old_handles generations ns) ≡ k
+  pub old_long : length (old_handles generations ns) ≡ k
   unfolding old_handles
   old_long = length-map ns (λ n. bits_of (get_or generations n 0) n) ∙ e
 
   pub old_front : (out : List ℕ) → k ≤ length out → set_each out (up_from 0 (length ns)) (old_handles generations ns) ≡ old_handles generations ns ++ drop k out
   old_front out h = rw (e) (rw (old_long) at (front_set out (old_handles generations ns) (rw old_long h)))
-
-  new_long : (ms : List ℕ) → length (new_handles ms) ≡ length ms
-  unfolding new_handles
-  new_long ms = length-map ms (bits_of 1)
 
   pub both_front : (out ms : List ℕ) (j n : ℕ) → length ms ≡ j → k + j ≡ n → n ≤ length out
       → set_each (set_each out (up_from 0 (length ns)) (old_handles generations ns)) (up_from k j) (new_handles ms) ≡ (old_handles generations ns ++ new_handles ms) ++ drop n out

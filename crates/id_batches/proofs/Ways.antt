@@ -12,7 +12,7 @@ use lib.ListN.{length, get_or, replicate}
 use lib.Seq.{slice, length-slice}
 use native.Mathlib.Omega.{arith}
 use borrow.Author.Tests.{ltb-false, lt-ltb, le-ltb, le-leb, lt-leb}
-use Rattle.refusal.specs.Table.{Answer, granted, refused, ◌or_else◌, passing, Did}
+use Rattle.refusal.specs.Table.{granted, refused, ◌or_else◌, passing, Did}
 use Rattle.refusal.specs.Laws.{grant}
 use Rattle.handle.specs.Bits.{MAX}
 use Rattle.id_tables.specs.declared.head.Head.{Head}
@@ -106,10 +106,10 @@ module _ (s : Ids) (n archetype first : ℕ) where
         many_damaged d =
             simp (f, le-ltb MAX (first + n) (omega arith), le-ltb (room s) n (omega (arith, room_is)), rw (part_is left s.head.pending s.pending, l) at d)
 
-        pub many_done : (a : Answer AllocManyState) (left' : Ids) → any_damaged s (part left s.head.pending s.pending) ≡ false
-            → (a ≡ granted (many_state s n)) × (left' ≡ alloced_ids s n archetype first) → Did (many_alloced s n archetype first) s a left'
+        pub many_done : (w : AllocManyState) (left' : Ids) → any_damaged s (part left s.head.pending s.pending) ≡ false
+            → (w ≡ many_state s n) × (left' ≡ alloced_ids s n archetype first) → Did (many_alloced s n archetype first) s (granted w) left'
         unfolding many_alloced ◌or_else◌
-        many_done a left' d e =
+        many_done w left' d e =
             rw (e.0, e.1)
             (grant (simp (f, le-ltb MAX (first + n) (omega arith), le-ltb (room s) n (omega (arith, room_is)), rw (part_is left s.head.pending s.pending, l) at d)))
 
@@ -119,7 +119,7 @@ pub many_seated : (s : Ids) (n archetype first left fresh : ℕ) → left ≡ s.
     → (a ≡ set_all s.archetypes (part left s.head.pending s.pending) archetype) × (x ≡ set_rows s.indices (part left s.head.pending s.pending) first)
     → (g ≡ set_all s.generations (up_from s.head.used fresh) 1) × (a' ≡ set_all a (up_from s.head.used fresh) archetype) × (x' ≡ set_rows x (up_from s.head.used fresh) (first + (s.head.pending - left)))
     → head ≡ flushed_head (s.head.used + fresh) left (s.head.live + n)
-    → (◌≡◌ {A = Answer AllocManyState} (granted (state_of left s.head.pending s.head.used (s.head.used + fresh))) (granted (many_state s n))) × (ids_of head g a' x' s.pending ≡ alloced_ids s n archetype first)
+    → (state_of left s.head.pending s.head.used (s.head.used + fresh) ≡ many_state s n) × (ids_of head g a' x' s.pending ≡ alloced_ids s n archetype first)
 many_seated s n archetype first left fresh l k ok head g a x a' x' old new e =
     (rw (l, k), rw (e, new.0, new.1, new.2, old.0, old.1, part_is left s.head.pending s.pending, l, k, all_two s.archetypes (last_pending s n) (new_numbers s n) archetype, rows_two s.indices (last_pending s n) (new_numbers s n) first, length-slice (s.head.pending - n) s.head.pending s.pending (omega arith)))
 

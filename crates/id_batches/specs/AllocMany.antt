@@ -1,20 +1,17 @@
 -- Alloc many: the last min(n, pending) entries in ascending position get the first rows, then new numbers. And the state that walks them.
-use Rattle.std.specs.Prelude.{ℕ, ◌+◌, ◌-◌, Bool, false, cond, not, ◌&&◌, List, [], ◌∷◌, ◌++◌, ltb, leb, length, get_or}
+use Rattle.std.specs.Prelude.{ℕ, ◌+◌, ◌-◌, Bool, false, cond, not, ◌&&◌, List, [], ◌∷◌, ◌++◌, ltb, leb, length, get_or, Some, None, Result, Ok, Err}
+use Rattle.std.specs.Prelude.{Option as Perhaps}
 use Rattle.std.proofs.Math.Option.{Option, none, some}
 use Rattle.std.proofs.Math.Seq.{slice}
-use Rattle.refusal.specs.Number.{number_of}
-use Rattle.refusal.specs.Table.{Answer, granted, refused, ◌when◌, ◌or_else◌, ◌otherwise◌}
+use Rattle.refusal.specs.Table.{Answer, ◌when◌, ◌or_else◌, ◌otherwise◌}
+use Rattle.refusal.specs.declared.Refusal.{Refusal}
 use Rattle.handle.specs.Bits.{MAX}
-use Rattle.id_tables.specs.declared.head.Head.{Head}
+use Rattle.handle.specs.declared.Number.{Number}
 use Rattle.id_tables.specs.Head.{flushed, flushed_head}
 use Rattle.id_tables.specs.Ids.{Ids, entry, room, any_damaged}
 use Rattle.id_tables.specs.Runs.{up_from}
 use Rattle.id_batches.specs.Seating.{seated}
 use Rattle.id_batches.specs.declared.many.AllocManyState.{AllocManyState}
-use Rattle.id_batches.specs.declared.many.AllocedMany.{AllocedMany}
-use Rattle.id_batches.specs.declared.many.AllocedMany.TheVariants as alloced
-use Rattle.id_batches.specs.declared.many.Walked.{Walked}
-use Rattle.id_batches.specs.declared.many.Walked.TheVariants as walked
 
 -- the recycled numbers that are taken, and the new ones
 abbrev pub last_pending : Ids → ℕ → List ℕ
@@ -68,21 +65,12 @@ walking w pending = 13 when (in_pending w && leb (length pending) w.position) �
 abbrev pub left_in : AllocManyState → ℕ
 left_in w = (w.top - w.position) + (w.end - w.number)
 
--- the document's number and values of each answer, and what it leaves
-abbrev pub alloced_of : AllocedMany → Answer AllocManyState
-alloced_of (alloced.Granted h w) = granted w
-alloced_of (alloced.Refused r) = refused (number_of r)
+-- the number of a step, or none after the last, and the state that the step leaves
+abbrev pub walked_of : Perhaps (Number × AllocManyState) → Option ℕ
+walked_of (Some x) = some x.0.0
+walked_of None = none
 
-abbrev pub head_after_many : Head → AllocedMany → Head
-head_after_many h (alloced.Granted left w) = left
-head_after_many h (alloced.Refused r) = h
-
-abbrev pub walked_of : Walked → Answer (Option ℕ)
-walked_of (walked.Number n w) = granted (some n.0)
-walked_of walked.Done = granted none
-walked_of (walked.Refused r) = refused (number_of r)
-
-abbrev pub state_after : AllocManyState → Walked → AllocManyState
-state_after w (walked.Number n left) = left
-state_after w walked.Done = w
-state_after w (walked.Refused r) = w
+abbrev pub state_after : AllocManyState → Result (Perhaps (Number × AllocManyState)) Refusal → AllocManyState
+state_after w (Ok (Some x)) = x.1
+state_after w (Ok None) = w
+state_after w (Err r) = w

@@ -1,5 +1,5 @@
 -- Entries of a table that are set one after the other.
-use Rattle.std.specs.Prelude.{ℕ, List, [], ◌∷◌, length, set, replicate}
+use Rattle.std.specs.Prelude.{ℕ, ◌+◌, List, [], ◌∷◌, length, set, replicate, ⊤}
 use Rattle.id_tables.specs.declared.head.Head.{Head}
 use Rattle.id_tables.specs.Ids.{Ids, ids_of}
 use Rattle.id_tables.specs.Runs.{up_from}
@@ -22,3 +22,8 @@ set_rows table ns first = set_each table ns (up_from first (length ns))
 abbrev pub seated : Ids → Head → List ℕ → List ℕ → ℕ → ℕ → Ids
 seated s head new numbers archetype first =
     ids_of head (set_all s.generations new 1) (set_all s.archetypes numbers archetype) (set_rows s.indices numbers first) s.pending
+
+-- each of these, the first of which stands at position k, is one that P allows there
+unfoldable pub Written : {A : Type 0} → (ℕ → A → Type 0) → ℕ → List A → Type 0
+Written P k [] = ⊤
+Written P k (x ∷ xs) = P k x × Written P (k + 1) xs

@@ -1,26 +1,27 @@
 // Flush: every reserved number gets a row.
-ghost use Rattle.refusal.specs.Table.{Did};
+ghost use Rattle.refusal.specs.Table.{Did, answer_of};
 ghost use Rattle.id_tables.specs.Ids.{ids_of, EntryOk};
-ghost use Rattle.id_tables.specs.Lookup.{done_of, head_after};
 ghost use Rattle.id_batches.specs.Flush.{reserved_placed, flushing};
 
 use crate::loops::{place_new, place_old};
 use handle::{MAX, Row};
-use id_tables::{Done, Head, any_damaged, tested};
-use refusal::{Refusal, Tested};
+use id_tables::{Head, IdTables};
+use refusal::Refusal;
 
 // What is left of a flush once the first tests have passed.
 fn reserved_placed(
-    head: Head,
+    head: &mut Head,
     generations: &mut [u32],
     archetypes: &mut [u32],
     indices: &mut [u32],
     pending: &[u32],
     archetype: u32,
     first: Row,
-) -> Done
-    requires { EntryOk (ids_of head generations.old archetypes.old indices.old pending.now) }
-    ensures { Did (reserved_placed (ids_of head generations.old archetypes.old indices.old pending.now) archetype first.0) (ids_of head generations.old archetypes.old indices.old pending.now) (done_of result) (ids_of (head_after head result) generations.new archetypes.new indices.new pending.now) }
+) -> Result<(), Refusal>
+    requires { EntryOk (ids_of head.old generations.old archetypes.old indices.old pending.now) }
+    ensures { let lent = ids_of head.old generations.old archetypes.old indices.old pending.now in
+        let left = ids_of head.new generations.new archetypes.new indices.new pending.now in
+        Did (reserved_placed lent archetype first.0) lent (answer_of result) left }
 {
     let used = head.used;
     let count = head.pending;
@@ -28,10 +29,18 @@ fn reserved_placed(
     let fresh = head.fresh();
     let reserved = fresh + (count - free);
     if ((MAX - first.0) as usize) < reserved {
-        return Done::Refused(Refusal::BadPlace);
+        return Err(Refusal::BadPlace);
     }
-    if any_damaged(used as u32, generations, indices, &pending[free..count]) {
-        return Done::Refused(Refusal::Damaged);
+    let recycled = &pending[free..count];
+    let ids = IdTables {
+        head: *head,
+        generations,
+        archetypes,
+        indices,
+        pending,
+    };
+    if ids.any_damaged(recycled) {
+        return Err(Refusal::Damaged);
     }
     let new = fresh as u32;
     place_new(
@@ -44,25 +53,33 @@ fn reserved_placed(
         first,
     );
     let next = Row(first.0 + new);
-    place_old(archetypes, indices, &pending[free..count], archetype, next);
-    Done::Granted(Head::flushed(used + fresh, free as u32, head.live + reserved))
+    place_old(archetypes, indices, recycled, archetype, next);
+    *head = Head::flushed(used + fresh, free as u32, head.live + reserved);
+    Ok(())
 }
 
-// hecs's `flush`, with an archetype and a first row in place of its closure.
+// hecs's `flush`, with an archetype and a first row in place of its closure. The tables are lent to be written, and not in a struct: C lends some of them to be read only.
 pub fn flush(
-    head: Head,
+    head: &mut Head,
     generations: &mut [u32],
     archetypes: &mut [u32],
     indices: &mut [u32],
     pending: &[u32],
     archetype: u32,
     first: Row,
-) -> Done
-    ensures { Did (flushing (ids_of head generations.old archetypes.old indices.old pending.now) archetype first.0) (ids_of head generations.old archetypes.old indices.old pending.now) (done_of result) (ids_of (head_after head result) generations.new archetypes.new indices.new pending.now) }
+) -> Result<(), Refusal>
+    ensures { let lent = ids_of head.old generations.old archetypes.old indices.old pending.now in
+        let left = ids_of head.new generations.new archetypes.new indices.new pending.now in
+        Did (flushing lent archetype first.0) lent (answer_of result) left }
 {
-    if let Tested::Refused(r) = tested(head, generations, archetypes, indices, pending, false) {
-        return Done::Refused(r);
-    }
+    let ids = IdTables {
+        head: *head,
+        generations,
+        archetypes,
+        indices,
+        pending,
+    };
+    ids.tested(false)?;
     reserved_placed(
         head,
         generations,

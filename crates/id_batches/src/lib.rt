@@ -9,5 +9,5 @@ mod reserving;
 
 pub use flushing::flush;
 pub use listing::freelist;
-pub use many::{AllocManyState, AllocedMany, Walked, alloc_many};
+pub use many::{AllocManyState, alloc_many};
 pub use reserving::reserve_entities;

@@ -1,13 +1,12 @@
 // The loops that the calls share: numbers placed at successive rows, handles written to an output.
-ghost use Rattle.std.specs.Prelude.{◌≡◌, false, ◌+◌, ◌-◌, ◌≤◌, length};
-ghost use Rattle.std.proofs.lemmas.List.Edits.{sets};
+ghost use Rattle.std.specs.Prelude.{◌≡◌, ℕ, false, ◌+◌, ◌-◌, ◌<◌, ◌≤◌, length, get_or};
 ghost use Rattle.handle.specs.Bits.{MAX};
 ghost use Rattle.id_tables.specs.Runs.{up_from, any_past};
-ghost use Rattle.id_batches.specs.Seating.{set_each, set_all, set_rows};
+ghost use Rattle.id_batches.specs.Seating.{set_each, set_all, set_rows, Written};
 ghost use Rattle.id_batches.specs.Reserve.{old_handles, new_handles};
 
 use handle::{Number, Row, bits_of};
-use id_tables::{fill, least};
+use id_tables::fill;
 
 // Recycled numbers get successive rows.
 pub(crate) fn place_old(
@@ -21,27 +20,20 @@ pub(crate) fn place_old(
     requires numbers_value { (any_past (length archetypes.old) numbers.now ≡ false) × (any_past (length indices.old) numbers.now ≡ false) }
     ensures { (archetypes.new ≡ set_all archetypes.old numbers.now archetype) × (indices.new ≡ set_rows indices.old numbers.now first.0) }
 {
-    let mut i = 0;
-    while i < numbers.len() {
-        let n = numbers[i] as usize;
+    for (i, number) in numbers.iter().enumerate() {
+        let n = *number as usize;
         archetypes[n] = archetype;
         indices[n] = first.0 + i as u32;
-        i += 1;
     }
 }
 
-// Successive values from a first one in the entries from..to that the table has.
-fn number(table: &mut [u32], from: usize, to: usize, first: u32)
-    requires { first + (to - from) ≤ MAX }
-    ensures { table.new ≡ sets table.old from (up_from first (to - from)) }
+// Each entry gets what the function says of its position.
+fn write<T: Copy, F: Fn(usize) -> T>(entries: &mut [T], value: F)
+    requires { (i : ℕ) → i < length entries.old → F.pre value i }
+    ensures { Written (F.post value) 0 entries.new }
 {
-    let end = least(to, table.len());
-    let mut i = from;
-    let mut value = first;
-    while i < end {
-        table[i] = value;
-        value += 1;
-        i += 1;
+    for (i, entry) in entries.iter_mut().enumerate() {
+        *entry = value(i);
     }
 }
 
@@ -55,14 +47,23 @@ pub(crate) fn place_new(
     archetype: u32,
     first: Row,
 )
-    requires { (from + count ≤ MAX) × (first.0 + count ≤ MAX) }
+    requires { (from + count ≤ length indices.old) × (first.0 + count ≤ MAX) × (from + count ≤ MAX) }
     ensures { (generations.new ≡ set_all generations.old (up_from from count) 1) × (archetypes.new ≡ set_all archetypes.old (up_from from count) archetype) × (indices.new ≡ set_rows indices.old (up_from from count) first.0) }
 {
     let start = from as usize;
     let end = start + count as usize;
     fill(generations, start, end, 1);
     fill(archetypes, start, end, archetype);
-    number(indices, start, end, first.0);
+    write(&mut indices[start..end], |i| first.0 + i as u32);
+}
+
+// The handle of the recycled number at a position.
+fn old_handle(generations: &[u32], numbers: &[u32], i: usize) -> u64
+    requires { (i < length numbers.now) × (any_past (length generations.now) numbers.now ≡ false) }
+    ensures { result ≡ get_or (old_handles generations.now numbers.now) i 0 }
+{
+    let number = numbers[i];
+    bits_of(generations[number as usize], Number(number))
 }
 
 // Writes the handles of recycled numbers, from the output's front on.
@@ -70,12 +71,10 @@ pub(crate) fn list_old(generations: &[u32], numbers: &[u32], out: &mut [u64])
     requires { (length numbers.now ≤ length out.old) × (any_past (length generations.now) numbers.now ≡ false) }
     ensures { out.new ≡ set_each out.old (up_from 0 (length numbers.now)) (old_handles generations.now numbers.now) }
 {
-    let mut i = 0;
-    while i < numbers.len() {
-        let number = numbers[i];
-        out[i] = bits_of(generations[number as usize], Number(number));
-        i += 1;
-    }
+    write(
+        &mut out[0..numbers.len()],
+        |i| old_handle(generations, numbers, i),
+    );
 }
 
 // Writes the handles of new numbers, from a position on.
@@ -83,9 +82,9 @@ pub(crate) fn list_new(from: u32, count: u32, position: usize, out: &mut [u64])
     requires { (from + count ≤ MAX) × (position + count ≤ length out.old) }
     ensures { out.new ≡ set_each out.old (up_from position count) (new_handles (up_from from count)) }
 {
-    let mut i = 0;
-    while i < count {
-        out[position + i as usize] = bits_of(1, Number(from + i));
-        i += 1;
-    }
+    let end = position + count as usize;
+    write(
+        &mut out[position..end],
+        |i| bits_of(1, Number(from + i as u32)),
+    );
 }

@@ -1,22 +1,15 @@
 -- The reader of a reservation: it holds the lent part of the pending list that the reservation takes, and the new range, and hands their handles out one by one.
 use Prim.{Unit, tt}
-use Rattle.std.specs.Prelude.{ℕ, ◌+◌, ◌-◌, Bool, false, cond, ◌&&◌, ◌≡◌, List, [], ◌∷◌, ltb, leb, eqb, length, get_or}
+use Rattle.std.specs.Prelude.{ℕ, ◌+◌, ◌-◌, Bool, false, cond, ◌&&◌, List, [], ◌∷◌, ltb, leb, eqb, length, get_or, Some, None}
+use Rattle.std.specs.Prelude.{Option as Perhaps}
 use Rattle.std.proofs.Math.Option.{Option, none, some}
-use Rattle.refusal.specs.Number.{number_of}
-use Rattle.refusal.specs.declared.Refusal.{Refusal}
-use Rattle.refusal.specs.Table.{Answer, granted, refused, ◌when◌, ◌or_else◌, ◌otherwise◌, Did}
+use Rattle.refusal.specs.Table.{Answer, granted, refused, ◌when◌, ◌or_else◌, ◌otherwise◌}
 use Rattle.handle.specs.Bits.{bits_of}
+use Rattle.handle.specs.declared.Handle.{Handle}
 use Rattle.id_tables.specs.Head.{free_of, new_of, fallen}
 use Rattle.id_tables.specs.Ids.{Ids, ids_of, entry, room, any_damaged}
-use Rattle.id_tables.specs.Lookup.{done_of, head_after}
-use Rattle.id_tables.specs.declared.lookup.Done.{Done}
-use Rattle.id_tables.specs.declared.lookup.Done.TheVariants as done
 use Rattle.id_batches.specs.Reserve.{recycled}
 use Rattle.id_readers.specs.declared.reader.ReserveEntitiesIterator.{ReserveEntitiesIterator}
-use Rattle.id_readers.specs.declared.reader.Reservation.{Reservation}
-use Rattle.id_readers.specs.declared.spans.EntityStep.{EntityStep}
-use Rattle.id_readers.specs.declared.spans.NextEntity.{NextEntity}
-use Rattle.id_readers.specs.declared.spans.NextEntity.TheVariants as next
 use Rattle.id_readers.specs.declared.spans.Span.{Span}
 
 -- the part of the pending list and the position in it, then the new numbers from `number` to `end`
@@ -52,9 +45,6 @@ first_new s = s.head.used + new_of s.head.cursor
 abbrev pub reader_in : Ids → ℕ → Reader
 reader_in s n = reader_at (recycled s n) 0 (first_new s) (first_new s + (n - free_of s.head.cursor))
 
-abbrev pub no_reader : Reader
-no_reader = reader_at [] 0 0 0
-
 -- the same as positions in the pending list
 abbrev pub span_at : ℕ → ℕ → ℕ → ℕ → ℕ × ℕ × ℕ × ℕ
 span_at from to number end = (from, to, number, end)
@@ -65,28 +55,20 @@ span_of r = span_at r.from r.to r.number r.end
 abbrev pub span_in : Ids → ℕ → ℕ × ℕ × ℕ × ℕ
 span_in s n = span_at (free_of s.head.cursor - n) (free_of s.head.cursor) (first_new s) (first_new s + (n - free_of s.head.cursor))
 
-abbrev pub no_span : ℕ × ℕ × ℕ × ℕ
-no_span = span_at 0 0 0 0
+-- a value beside what a granted call leaves
+abbrev pub beside : {A S : Type 0} → Answer (Unit {0} × S) → A → Answer (A × S)
+beside (granted x) v = granted (v, x.1)
+beside (refused n) v = refused n
 
-abbrev pub refused_span : Refusal → Span
-refused_span r = record { done = done.Refused r; from = 0; to = 0; number = 0; end = 0 }
+-- the reservation as its span, past the first tests and whole, and as its reader
+unfoldable pub span_reserved : Ids → ℕ → Answer ((ℕ × ℕ × ℕ × ℕ) × Ids)
+span_reserved s n = beside (part_reserved s n) (span_in s n)
 
--- a value where the answer grants, and else the empty one
-abbrev pub given : {A B : Type 0} → Answer B → A → A → A
-given (granted x) v empty = v
-given (refused n) v empty = empty
+unfoldable pub reserving_span : Ids → ℕ → Answer ((ℕ × ℕ × ℕ × ℕ) × Ids)
+reserving_span s n = beside (reserving_part s n) (span_in s n)
 
--- the head that is left, and a span or a reader beside the answer
-abbrev pub headed : Ids → Done → Ids
-headed s done = ids_of (head_after s.head done) s.generations s.archetypes s.indices s.pending
-
-abbrev pub SpanReserved : (Ids → ℕ → Answer (Unit {0} × Ids)) → Ids → ℕ → Span → Type 0
-SpanReserved rule s n r = Did (rule s n) s (done_of r.done) (headed s r.done) × (span_of r ≡ given (rule s n) (span_in s n) no_span)
-
-abbrev pub ReaderReserved : Ids → ℕ → Reservation → Type 0
-ReaderReserved s n r =
-    Did (reserving_part s n) s (done_of r.done) (headed s r.done)
-    × (reader_of r.reader ≡ given (reserving_part s n) (reader_in s n) no_reader)
+unfoldable pub reserving_reader : Ids → ℕ → Answer (Reader × Ids)
+reserving_reader s n = beside (reserving_part s n) (reader_in s n)
 
 -- positions are left, and the number there
 abbrev pub in_part : Reader → Bool
@@ -114,11 +96,7 @@ stepping w generations =
 abbrev pub left_in : Reader → ℕ
 left_in w = (length w.recycled - w.position) + (w.end - w.number)
 
--- the document's number and values of each answer
-abbrev pub next_of : NextEntity → Answer (Option ℕ)
-next_of (next.Entity h) = granted (some h.0)
-next_of next.Done = granted none
-next_of (next.Refused r) = refused (number_of r)
-
-abbrev pub step_of : NextEntity → ℕ → ℕ → EntityStep
-step_of said position number = record { next = said; position = position; number = number }
+-- the bits of the handle that a step gives, or none after the last
+abbrev pub handed_of : Perhaps Handle → Option ℕ
+handed_of (Some h) = some h.0
+handed_of None = none

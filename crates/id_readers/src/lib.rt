@@ -5,8 +5,6 @@ mod reader;
 mod spans;
 mod state;
 
-pub use reader::{
-    NextReserved, Reservation, ReserveEntitiesIterator, reserve_entities, reserve_next,
-};
-pub use spans::{EntityStep, NextEntity, Span, reserve_len, reserve_span};
-pub use state::{NextNumber, NumberStep, alloc_many_next, alloc_many_step};
+pub use reader::{ReserveEntitiesIterator, reserve_entities};
+pub use spans::{Span, reserve_len, reserve_next, reserve_span};
+pub use state::{alloc_many_next, alloc_many_step};

@@ -1,153 +1,90 @@
 // What the reader's functions leave to plain slices and positions: a reservation as a span of the pending list and of new numbers, and a step in it.
 ghost use Rattle.std.specs.Prelude.{◌≡◌};
-ghost use Rattle.std.proofs.Math.Seq.{slice};
-ghost use Rattle.refusal.specs.Table.{Did};
-ghost use Rattle.id_tables.specs.Ids.{ids_of, EntryOk};
-ghost use Rattle.id_readers.specs.Reader.{reader_at, part_reserved, reserving_part, refused_span, SpanReserved, stepping, next_of, step_of, left_in};
+ghost use Rattle.refusal.specs.Table.{Did, answer_by};
+ghost use Rattle.id_tables.specs.Ids.{ids_in, EntryOk};
+ghost use Rattle.id_readers.specs.Reader.{reader_at, span_of, span_reserved, reserving_span, stepping, handed_of, left_in};
 
-use handle::{Bits, Handle, Number};
-use id_tables::{Done, Head, any_damaged, least, minus, tested};
-use refusal::{Refusal, Tested};
+use handle::{Handle, Number};
+use id_tables::IdTables;
+use refusal::Refusal;
 
-// The numbers of a reservation: those at `from` to `to` of the pending list, then the new ones from `number` to `end`. All are 0 on a refusal.
-#[derive(Clone, Copy)]
+// The numbers of a reservation: those at `from` to `to` of the pending list, then the new ones from `number` to `end`.
+#[derive(Clone, Copy, Debug, PartialEq, Eq)]
 pub struct Span {
-    pub done: Done,
     pub from: usize,
     pub to: usize,
     pub number: u32,
     pub end: u32,
 }
 
-// The next handle; no more; or why there is none.
-#[derive(Clone, Copy)]
-pub enum NextEntity {
-    Entity(Handle),
-    Done,
-    Refused(Refusal),
-}
-
-// What a step answers, with the position and the new number after it.
-#[derive(Clone, Copy)]
-pub struct EntityStep {
-    pub next: NextEntity,
-    pub position: usize,
-    pub number: u32,
-}
-
-// A refusal has the empty span.
-fn no_span(refusal: Refusal) -> Span
-    ensures { result ≡ refused_span refusal }
-{
-    Span {
-        done: Done::Refused(refusal),
-        from: 0,
-        to: 0,
-        number: 0,
-        end: 0,
-    }
-}
-
 // What is left of a reservation once the first tests have passed.
-fn span_reserved(
-    head: Head,
-    generations: &[u32],
-    archetypes: &[u32],
-    indices: &[u32],
-    pending: &[u32],
-    n: usize,
-) -> Span
-    requires { EntryOk (ids_of head generations.now archetypes.now indices.now pending.now) }
-    ensures { SpanReserved part_reserved (ids_of head generations.now archetypes.now indices.now pending.now) n result }
+fn span_reserved(ids: &mut IdTables<'_>, n: usize) -> Result<Span, Refusal>
+    requires { EntryOk (ids_in ids.old) }
+    ensures { let lent = ids_in ids.old in
+        let left = ids_in ids.new in
+        Did (span_reserved lent n) lent (answer_by span_of result) left }
 {
-    let free = head.free();
-    let next = head.used + head.fresh();
-    if free + (generations.len() - next) < n {
-        return no_span(Refusal::NoRoom);
+    let free = ids.head.free();
+    let next = ids.head.used + ids.head.fresh();
+    if free + (ids.generations.len() - next) < n {
+        return Err(Refusal::NoRoom);
     }
-    let from = minus(free, n);
-    if any_damaged(head.used as u32, generations, indices, &pending[from..free]) {
-        return no_span(Refusal::Damaged);
+    let from = free.saturating_sub(n);
+    if ids.any_damaged(&ids.pending[from..free]) {
+        return Err(Refusal::Damaged);
     }
-    let end = next + minus(n, free);
-    Span {
-        done: Done::Granted(head.fallen(n as u32)),
+    ids.head = ids.head.fallen(n as u32);
+    Ok(Span {
         from: from,
         to: free,
         number: next as u32,
-        end: end as u32,
-    }
+        end: (next + n.saturating_sub(free)) as u32,
+    })
 }
 
-// A reservation of n as a span, for whoever walks it without a reader.
-pub fn reserve_span(
-    head: Head,
-    generations: &[u32],
-    archetypes: &[u32],
-    indices: &[u32],
-    pending: &[u32],
-    n: usize,
-) -> Span
-    ensures { SpanReserved reserving_part (ids_of head generations.now archetypes.now indices.now pending.now) n result }
+// A reservation of n as a span, for whoever walks it without a reader: the cursor falls by n.
+pub fn reserve_span(ids: &mut IdTables<'_>, n: usize) -> Result<Span, Refusal>
+    ensures { let lent = ids_in ids.old in
+        let left = ids_in ids.new in
+        Did (reserving_span lent n) lent (answer_by span_of result) left }
 {
-    if let Tested::Refused(r) = tested(head, generations, archetypes, indices, pending, false) {
-        return no_span(r);
-    }
-    span_reserved(head, generations, archetypes, indices, pending, n)
+    ids.tested(false)?;
+    span_reserved(ids, n)
 }
 
-// What a table has from one position to another.
-pub(crate) fn part_of(table: &[u32], from: usize, to: usize) -> &[u32]
-    ensures { result.now ≡ slice from to table.now }
-{
-    let stop = least(to, table.len());
-    let start = least(from, stop);
-    &table[start..stop]
-}
-
-fn stepped(next: NextEntity, position: usize, number: u32) -> EntityStep
-    ensures { result ≡ step_of next position number }
-{
-    EntityStep {
-        next: next,
-        position: position,
-        number: number,
-    }
-}
-
-// A step at a position of the part, and at the new range past it.
-pub(crate) fn step_at(
-    part: &[u32],
-    position: usize,
-    number: u32,
+// A step of the reader of a part, at a position of it and then at the new range past it, for callers that hold the part and the positions themselves: C holds them in variables of its own, so they are lent one by one.
+pub fn reserve_next(
+    recycled: &[u32],
+    position: &mut usize,
+    number: &mut u32,
     end: u32,
     generations: &[u32],
-) -> EntityStep
-    ensures { Did (stepping (reader_at part.now position number end) generations.now) (reader_at part.now position number end) (next_of result.next) (reader_at part.now result.position result.number end) }
+) -> Result<Option<Handle>, Refusal>
+    ensures { let lent = reader_at recycled.now position.old number.old end in
+        let left = reader_at recycled.now position.new number.new end in
+        Did (stepping lent generations.now) lent (answer_by handed_of result) left }
 {
-    if position < part.len() {
-        let n = part[position];
-        let at = n as usize;
-        if generations.len() <= at {
-            return stepped(NextEntity::Refused(Refusal::BadLength), position, number);
-        }
-        let Bits::Good(handle) = Handle::new(Number(n), generations[at]) else {
-            return stepped(NextEntity::Refused(Refusal::Damaged), position, number);
+    if let Some(entry) = recycled.get(*position) {
+        let Some(generation) = generations.get(*entry as usize) else {
+            return Err(Refusal::BadLength);
         };
-        return stepped(NextEntity::Entity(handle), position + 1, number);
-    }
-    if number < end {
-        let Bits::Good(handle) = Handle::new(Number(number), 1) else {
-            return stepped(NextEntity::Done, position, number);
+        let Ok(handle) = Handle::new(Number(*entry), *generation) else {
+            return Err(Refusal::Damaged);
         };
-        return stepped(NextEntity::Entity(handle), position, number + 1);
+        *position += 1;
+        return Ok(Some(handle));
     }
-    stepped(NextEntity::Done, position, number)
+    if *number < end {
+        let handle = Handle::new(Number(*number), 1)?;
+        *number += 1;
+        return Ok(Some(handle));
+    }
+    Ok(None)
 }
 
 // How many handles the reader of a part has left, for callers that hold the part and the positions themselves.
 pub fn reserve_len(recycled: &[u32], position: usize, number: u32, end: u32) -> usize
     ensures { result ≡ left_in (reader_at recycled.now position number end) }
 {
-    minus(recycled.len(), position) + minus(end as usize, number as usize)
+    recycled.len().saturating_sub(position) + end.saturating_sub(number) as usize
 }

@@ -1,6 +1,6 @@
 -- A cursor that falls by n: the two counts that it has then, and where 64 bits hold it.
 -- Assumes nothing.
-use Rattle.std.proofs.Common.{◌≡◌, ℕ, zero, suc, ◌+◌, ◌-◌, ◌^◌, ◌<◌, ◌≤◌, Bool, true, false, cond, ltb, ℤ, pos, negsuc, ◌-ℤ◌, refl, arith, w64, SFits, ltb-false, ltb-true, le-leb}
+use Rattle.std.proofs.Common.{◌≡◌, ℕ, zero, suc, ◌+◌, ◌-◌, ◌^◌, ◌<◌, ◌≤◌, Bool, true, false, cond, ltb, ℤ, pos, negsuc, ◌-ℤ◌, refl, arith, to_z-of_z, w64, SFits, to_z, of_z, ltb-false, ltb-true, le-leb}
 use borrow.Author.Tests.{lt-leb}
 use lib.Signed.{mag}
 use Rattle.id_tables.specs.declared.head.Head.{Head}
@@ -42,6 +42,12 @@ fall_held (pos m) zero f h k = record { sfits = omega (arith, f.sfits) }
 fall_held (pos m) (suc n) f h k = record { sfits = less_mag m (suc n) (ltb m (suc n)) refl f.sfits (omega arith) }
 fall_held (negsuc m) zero f h k = record { sfits = less_mag 0 (suc m) (ltb 0 (suc m)) refl (omega arith) (omega arith) }
 fall_held (negsuc m) (suc n) f h k = record { sfits = omega (arith, f.sfits) }
+
+-- and then it is read back whole, and so is the number that it falls by
+pub fall_is : (x : ℤ) (n : ℕ) → SFits w64 x → n < 2 ^ 32 → new_of x + n ≤ 2 ^ 63 → (y : ℤ) → y ≡ pos n → to_z w64 (of_z w64 (to_z w64 (of_z w64 x) -ℤ to_z w64 (of_z w64 y))) ≡ x -ℤ pos n
+fall_is x n f h k y e =
+    let g : SFits w64 (pos n) = record { sfits = omega arith } in
+    rw (e, to_z-of_z f, to_z-of_z g, to_z-of_z (fall_held x n f h k))
 
 module _ (h : Head) (n : ℕ) where
   pub falls : new_of h.cursor + n ≤ 2 ^ 63 → fallen_fit h n ≡ fallen h n

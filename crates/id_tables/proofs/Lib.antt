@@ -1,5 +1,4 @@
 -- Laws that the proofs of this crate share, and those that callers cite.
-mod Signed
 mod Cursor
 pub mod Entering
 pub mod Falling
@@ -14,3 +13,4 @@ pub mod Placing
 mod Looking
 pub mod Determined
 pub mod Refusing
+pub mod Heads

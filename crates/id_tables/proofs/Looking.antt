@@ -1,17 +1,15 @@
 -- The ways through the rules of the lookups, over plain values. A code's own generation g' and number n' are the handle's g and n.
 -- Assumes nothing.
 use Prim.{tt}
-use Rattle.std.proofs.Common.{◌≡◌, ℕ, ◌+◌, ◌-◌, ◌<◌, ◌≤◌, Bool, true, false, cond, ◌&&◌, eqb, ltb, List, set, sym, refl, ◌∙◌, arith, ltb-false, ltb-true, le-ltb, lt-ltb, eq-eqb, ne_eqb, eqb-true, le-leb}
+use Rattle.std.proofs.Common.{◌≡◌, ℕ, ◌+◌, ◌-◌, ◌<◌, ◌≤◌, Bool, true, false, cond, ◌&&◌, eqb, ltb, List, Result, Ok, Err, set, sym, refl, ◌∙◌, arith, ltb-false, ltb-true, le-ltb, lt-ltb, eq-eqb, ne_eqb, eqb-true, le-leb}
 use mathlib.Core.Bool.{or-false}
 use borrow.Author.Tests.{lt-leb}
 use Rattle.refusal.specs.Table.{Answer, granted, refused, ◌or_else◌, passing, Did}
 use Rattle.refusal.specs.Laws.{grant, go}
 use Rattle.refusal.specs.declared.Refusal.{Refusal}
-use Rattle.handle.specs.Bits.{MAX, answer_of, new_handle}
+use Rattle.handle.specs.Bits.{MAX, handle_of, new_handle}
 use Rattle.handle.specs.RoundTrip.{new_good, new_bad}
 use Rattle.handle.specs.declared.Handle.{Handle}
-use Rattle.handle.specs.declared.Bits.{Bits}
-use Rattle.handle.specs.declared.Bits.TheVariants.{Good, Refused}
 use Rattle.handle.specs.declared.Place.{Place}
 use Rattle.id_tables.specs.declared.head.Head.{Head}
 use Rattle.id_tables.specs.Head.{new_of}
@@ -86,14 +84,14 @@ module _ (s : Ids) (n fresh : ℕ) (t : granted tt ≡ passing (entry s false)) 
   resolve_none h = sym (go (entry s false) _ _ t ∙ simp (le-leb (s.head.used + new_of s.head.cursor) n (rw f at h)))
 
   -- what `new` said of the generation
-  module _ (g : ℕ) (r : Bits) (h : n < s.head.used + fresh) (e : g ≡ cond (ltb n s.head.used) (generation_at s n) 1) (a : answer_of r ≡ new_handle n g) where
-    pub resolve_damaged : (x : Refusal) → r ≡ Refused x → refused 1 ≡ resolving s n
+  module _ (g : ℕ) (r : Result Handle Refusal) (h : n < s.head.used + fresh) (e : g ≡ cond (ltb n s.head.used) (generation_at s n) 1) (a : handle_of r ≡ new_handle n g) where
+    pub resolve_damaged : (x : Refusal) → r ≡ Err x → refused 1 ≡ resolving s n
     unfolding resolving ◌or_else◌
     resolve_damaged x p =
         sym (go (entry s false) _ _ t
         ∙ simp (lt-leb (s.head.used + new_of s.head.cursor) n (rw f at h), zero_stored (ltb n s.head.used) (generation_at s n) g e (new_bad n g r x a p)))
 
-    pub resolve_found : (y : Handle) → r ≡ Good y → granted y.0 ≡ resolving s n
+    pub resolve_found : (y : Handle) → r ≡ Ok y → granted y.0 ≡ resolving s n
     unfolding resolving ◌or_else◌
     resolve_found y p =
         let k = new_good n g r y a p in

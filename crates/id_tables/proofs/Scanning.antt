@@ -1,17 +1,17 @@
 -- Scans that no entry ends: what was found so far, or what is left of the list, decides.
 -- Assumes nothing.
-use Rattle.std.proofs.Common.{◌≡◌, ℕ, ◌+◌, ◌<◌, ◌≤◌, min, Bool, true, false, not, ◌&&◌, ◌||◌, eqb, leb, List, [], ◌∷◌, ◌++◌, length, get_or, drop, sym, refl, ap, ◌∙◌, add-one, arith, drop_of_length-le, drop-cons, eq-eqb, ne_eqb, eqb-true, leb-false, leb-true}
+use Rattle.std.proofs.Common.{◌≡◌, ℕ, suc, ◌+◌, ◌-◌, ◌%◌, ◌<◌, ◌≤◌, min, Bool, true, false, not, ◌&&◌, ◌||◌, eqb, leb, List, [], ◌∷◌, ◌++◌, length, get_or, drop, sym, refl, ap, ◌∙◌, length-append, drop-drop, add-one, arith, drop_of_length-le, drop-cons, eq-eqb, ne_eqb, eqb-true, leb-false, leb-true}
 use mathlib.Core.Bool.{or-true, or-false, or_assoc}
 use borrow.Author.Tests.{eqb-false, lt-leb}
 use lib.Bits.{bit_and, and_le_l, and_le_r, and_self}
 use lib.ListN.{get_or-eq_default}
+use lib.Seq.{drop-append_seam}
 use Rattle.refusal.specs.Truth.{neither}
 use Rattle.handle.specs.Bits.{MAX}
 use Rattle.id_tables.specs.Ids.{damaged_in, any_damaged_in}
 use Rattle.id_tables.specs.Lookup.{any_is}
 use Rattle.id_tables.specs.Runs.{any_past}
 use Rattle.id_tables.proofs.Damage.{damage_cons}
-use Rattle.id_tables.proofs.Parts.{part, part_then}
 
 -- the whole holds where it was found so far, or holds of the rest
 pub record Sofar (whole found rest : Bool) : Type 0 where
@@ -49,21 +49,47 @@ module _ (n : ℕ) (ms : List ℕ) (i : ℕ) where
   unfolding any_past
   past_end h = rw (drop_of_length-le ms h)
 
+-- numbers that are all below a limit
+pub none_past : (limit : ℕ) (ns : List ℕ) → ((i : ℕ) → get_or ns i 0 < limit) → any_past limit ns ≡ false
+unfolding any_past
+none_past limit [] h = refl
+none_past limit (n ∷ ns) h = simp (lt-leb limit n (h 0), none_past limit ns (λ i. h (suc i)))
+
 -- a search by blocks
 any_two : (n : ℕ) (ms ns : List ℕ) → any_is n (ms ++ ns) ≡ (any_is n ms || any_is n ns)
 unfolding any_is
 any_two n [] ns = refl
 any_two n (m ∷ ms) ns = rw (any_two n ms ns) (sym (or_assoc (eqb m n) (any_is n ms) (any_is n ns)))
 
-module _ (n from to : ℕ) (ms : List ℕ) (h : from ≤ to) where
-  block_split : any_is n (drop from ms) ≡ (any_is n (part from to ms) || any_is n (drop to ms))
-  block_split = ap (any_is n) (part_then from to ms h) ∙ any_two n (part from to ms) (drop to ms)
+-- what is left past whole blocks of 64
+pub record Left (all rest : List ℕ) : Type 0 where
+  pub ends : rest ≡ drop (length all - length rest) all
+  pub blocks : length rest % 64 ≡ length all % 64
+  pub within : length rest ≤ length all
 
-  pub block_has : any_is n (part from to ms) ≡ true → any_is n (drop from ms) ≡ true
-  block_has e = block_split ∙ rw e
+pub left_all : (all : List ℕ) → Left all all
+left_all all = record { ends = let z : length all - length all ≡ 0 = omega arith in rw z; blocks = refl; within = omega arith }
 
-  pub block_lacks : any_is n (part from to ms) ≡ false → any_is n (drop from ms) ≡ any_is n (drop to ms)
-  block_lacks e = block_split ∙ rw e
+pub left_more : (all was block rest : List ℕ) → was ≡ block ++ rest → length block ≡ 64 → Left all was → Left all rest
+left_more all was block rest e k l =
+    let m : length was ≡ 64 + length rest = ap length e ∙ length-append block rest ∙ rw k in
+    let d : rest ≡ drop 64 was = rw (e, ← k) (sym (drop-append_seam block rest)) in
+    let q : (length all - length was) + 64 ≡ length all - length rest = omega (arith, l.within) in
+    record {
+      ends = d ∙ ap (drop 64) l.ends ∙ drop-drop 64 (length all - length was) all ∙ rw q;
+      blocks = omega (arith, l.blocks);
+      within = omega (arith, l.within);
+    }
+
+pub left_last : (all rest : List ℕ) → length rest < 64 → Left all rest → rest ≡ drop (length all - length all % 64) all
+left_last all rest h l = let q : length rest ≡ length all % 64 = omega (arith, l.blocks) in l.ends ∙ rw q
+
+module _ (n : ℕ) (all block rest : List ℕ) (e : all ≡ block ++ rest) where
+  pub block_has : any_is n block ≡ true → any_is n all ≡ true
+  block_has h = rw (e, any_two n block rest, h)
+
+  pub block_lacks : any_is n block ≡ false → any_is n all ≡ any_is n rest
+  block_lacks h = rw (e, any_two n block rest, h)
 
 -- a number past where a list ends
 below_longer : (a b : ℕ) (ns : List ℕ) → a ≤ b → any_past a ns ≡ false → any_past b ns ≡ false

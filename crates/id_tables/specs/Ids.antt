@@ -4,6 +4,7 @@ use Rattle.refusal.specs.Table.{Rule, ◌when◌}
 use Rattle.handle.specs.Bits.{MAX, place_of}
 use Rattle.handle.specs.declared.Place.{Place}
 use Rattle.id_tables.specs.declared.head.Head.{Head}
+use Rattle.id_tables.specs.declared.tables.IdTables.{IdTables}
 use Rattle.id_tables.specs.Head.{free_of, new_of, head_rules, room_in}
 
 -- generation, archetype and index of each number, and the pending list
@@ -16,6 +17,10 @@ pub record Ids : Type 0 where
 
 abbrev pub ids_of : Head → List ℕ → List ℕ → List ℕ → List ℕ → Ids
 ids_of h g a x p = record { head = h; generations = g; archetypes = a; indices = x; pending = p }
+
+-- the tables that a view lends
+abbrev pub ids_in : IdTables → Ids
+ids_in t = ids_of t.head t.generations.now t.archetypes.now t.indices.now t.pending.now
 
 -- Capacity: 0 to 4,096 numbers
 abbrev pub max_capacity : ℕ

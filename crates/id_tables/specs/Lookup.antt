@@ -2,22 +2,11 @@
 use Prim.{Unit, tt}
 use Rattle.std.specs.Prelude.{ℕ, ◌+◌, Bool, false, cond, not, ◌&&◌, ◌||◌, leb, List, [], ◌∷◌, ◌++◌, ◌==◌, nat_le, nat_lt}
 use Rattle.std.proofs.Math.Seq.{slice}
-use Rattle.refusal.specs.Number.{number_of}
-use Rattle.refusal.specs.Table.{Answer, granted, refused, ◌when◌, ◌otherwise◌}
+use Rattle.refusal.specs.Table.{Answer, granted, ◌when◌, ◌otherwise◌}
 use Rattle.handle.specs.Bits.{MAX, bits_of, place_of}
 use Rattle.handle.specs.OnBits.{on_bits}
 use Rattle.handle.specs.declared.Place.{Place}
 use Rattle.id_tables.specs.declared.head.Head.{Head}
-use Rattle.id_tables.specs.declared.lookup.Contained.{Contained}
-use Rattle.id_tables.specs.declared.lookup.Contained.TheVariants as contained
-use Rattle.id_tables.specs.declared.lookup.Found.{Found}
-use Rattle.id_tables.specs.declared.lookup.Found.TheVariants as found
-use Rattle.id_tables.specs.declared.lookup.Resolved.{Resolved}
-use Rattle.id_tables.specs.declared.lookup.Resolved.TheVariants as resolved
-use Rattle.id_tables.specs.declared.lookup.Counted.{Counted}
-use Rattle.id_tables.specs.declared.lookup.Counted.TheVariants as counted
-use Rattle.id_tables.specs.declared.lookup.Done.{Done}
-use Rattle.id_tables.specs.declared.lookup.Done.TheVariants as done
 use Rattle.id_tables.specs.Head.{free_of, new_of, flushed_head}
 use Rattle.id_tables.specs.Ids.{Ids, ids_of, entry, live, place_at, generation_at, placed}
 
@@ -85,29 +74,3 @@ cleared s = ids_of (flushed_head 0 0 0) s.generations s.archetypes s.indices s.p
 
 unfoldable pub clearing : Ids → Answer (Unit {0} × Ids)
 clearing s = entry s false otherwise (tt, cleared s)
-
--- the document's number and values of each answer
-abbrev pub contained_of : Contained → Answer Bool
-contained_of (contained.Is b) = granted b
-contained_of (contained.Refused r) = refused (number_of r)
-
-abbrev pub found_of : Found → Answer Place
-found_of (found.At place) = granted place
-found_of (found.Refused r) = refused (number_of r)
-
-abbrev pub resolved_of : Resolved → Answer ℕ
-resolved_of (resolved.Entity h) = granted h.0
-resolved_of (resolved.Refused r) = refused (number_of r)
-
-abbrev pub counted_of : Counted → Answer ℕ
-counted_of (counted.Count n) = granted n
-counted_of (counted.Refused r) = refused (number_of r)
-
-abbrev pub done_of : Done → Answer (Unit {0})
-done_of (done.Granted h) = granted tt
-done_of (done.Refused r) = refused (number_of r)
-
--- the head that an answer leaves: the one that it hands back, or on a refusal the one that was lent
-abbrev pub head_after : Head → Done → Head
-head_after h (done.Granted left) = left
-head_after h (done.Refused r) = h

@@ -2,8 +2,6 @@
 ghost use Rattle.std.specs.Prelude.{◌≡◌, ◌+◌, ◌-◌, ◌%◌, ◌^◌, ◌<◌, ◌≤◌, not, ◌||◌, nat_lt};
 ghost use Rattle.id_tables.specs.Head.{free_of, new_of, flushed, flushed_head, fallen_fit};
 
-use std::num::wrapping_sub_usize;
-
 // How far below 0 a cursor can be.
 const DEPTH: usize = 0x8000_0000_0000_0000;
 
@@ -20,12 +18,11 @@ impl Head {
     pub fn flushed(used: usize, pending: u32, live: usize) -> Head
         ensures { result ≡ flushed_head used pending live }
     {
-        let cursor = pending as i64;
         Head {
-            used: used,
+            used,
             pending: pending as usize,
-            cursor: cursor,
-            live: live,
+            cursor: i64::from(pending),
+            live,
         }
     }
 
@@ -33,34 +30,21 @@ impl Head {
     pub fn free(self) -> usize
         ensures { result ≡ free_of self.cursor }
     {
-        let c = self.cursor;
-        if c < 0 {
-            return 0;
-        }
-        c as usize
+        self.cursor.max(0) as usize
     }
 
-    // How many new numbers are reserved: how far the cursor is below 0. The complement fits where the negation would not.
+    // How many new numbers are reserved: how far the cursor is below 0.
     pub fn fresh(self) -> usize
         ensures { result ≡ new_of self.cursor }
     {
-        let c = self.cursor;
-        if c < 0 {
-            let d = !c;
-            return (d as usize) + 1;
-        }
-        0
+        self.cursor.min(0).unsigned_abs() as usize
     }
 
     // Nothing is reserved: the cursor is the pending count.
     pub fn is_flushed(self) -> bool
         ensures { result ≡ flushed self }
     {
-        let c = self.cursor;
-        if c < 0 {
-            return false;
-        }
-        self.free() == self.pending
+        self.free() == self.pending && self.fresh() == 0
     }
 
     // The head rule for the cursor: at most the pending count, and no deeper below 0 than there are unused numbers. In 64 bits one test of the pending count less the cursor says both.
@@ -75,36 +59,26 @@ impl Head {
             }
             return self.fresh() <= unused;
         }
-        wrapping_sub_usize(self.pending, self.bits()) <= self.pending + unused
+        self.pending.wrapping_sub(self.bits()) <= self.pending + unused
     }
 
     // The cursor in two's complement.
     fn bits(self) -> usize
         ensures { ((result + new_of self.cursor) % 2 ^ 64 ≡ free_of self.cursor) × (free_of self.cursor < 2 ^ 63) × (new_of self.cursor ≤ 2 ^ 63) }
     {
-        let c = self.cursor;
-        if c < 0 {
-            let d = !c;
-            let e = d as usize;
-            return !e;
-        }
-        c as usize
+        self.cursor.cast_unsigned() as usize
     }
 
     // The head with its cursor fallen by n. A cursor that would leave its 64 bits stays.
     pub fn fallen(self, n: u32) -> Head
         ensures { result ≡ fallen_fit self n }
     {
-        let c = self.cursor;
         if DEPTH < self.fresh() + n as usize {
             return self;
         }
-        let d = n as i64;
         Head {
-            used: self.used,
-            pending: self.pending,
-            cursor: c - d,
-            live: self.live,
+            cursor: self.cursor - i64::from(n),
+            ..self
         }
     }
 }

@@ -1,46 +1,15 @@
-// What the calls that look or set answer, and two of them: contains and get.
+// The calls that look a handle up: contains and get.
 ghost use Rattle.std.specs.Prelude.{◌≡◌};
+ghost use Rattle.refusal.specs.Table.{answer_of};
 ghost use Rattle.handle.specs.Bits.{generation_in, number_in};
-ghost use Rattle.id_tables.specs.Ids.{ids_of, EntryOk};
-ghost use Rattle.id_tables.specs.Lookup.{reserved_new, is_contained, containing, place_got, getting, contained_of, found_of};
+ghost use Rattle.id_tables.specs.Ids.{ids_in, EntryOk};
+ghost use Rattle.id_tables.specs.Lookup.{reserved_new, is_contained, containing, place_got, getting};
 
-use crate::entry::tested;
 use crate::head::Head;
 use crate::runs::has;
-use crate::tables::{at, is_live};
-use handle::{Bits, Handle, MAX, Place, Row};
-use refusal::{Refusal, Tested};
-
-#[derive(Clone, Copy)]
-pub enum Contained {
-    Is(bool),
-    Refused(Refusal),
-}
-
-#[derive(Clone, Copy)]
-pub enum Found {
-    At(Place),
-    Refused(Refusal),
-}
-
-#[derive(Clone, Copy)]
-pub enum Resolved {
-    Entity(Handle),
-    Refused(Refusal),
-}
-
-#[derive(Clone, Copy)]
-pub enum Counted {
-    Count(usize),
-    Refused(Refusal),
-}
-
-// A call that answers nothing but the head that it leaves.
-#[derive(Clone, Copy)]
-pub enum Done {
-    Granted(Head),
-    Refused(Refusal),
-}
+use crate::tables::{IdTables, at};
+use handle::{Handle, MAX, Place};
+use refusal::Refusal;
 
 // A number that is handed out and not yet in the tables.
 fn is_reserved_new(head: Head, generation: u32, number: usize) -> bool
@@ -55,94 +24,58 @@ fn is_reserved_new(head: Head, generation: u32, number: usize) -> bool
     number - head.used < head.fresh()
 }
 
-fn is_contained(
-    head: Head,
-    generations: &[u32],
-    archetypes: &[u32],
-    indices: &[u32],
-    pending: &[u32],
-    handle: Handle,
-) -> bool
-    requires { EntryOk (ids_of head generations.now archetypes.now indices.now pending.now) }
-    ensures { result ≡ is_contained (ids_of head generations.now archetypes.now indices.now pending.now) (generation_in handle.0) (number_in handle.0) }
-{
-    let generation = handle.generation();
-    let id = handle.id();
-    let number = id.0 as usize;
-    if head.used <= number {
-        return is_reserved_new(head, generation, number);
+impl IdTables<'_> {
+    fn is_contained(&self, handle: Handle) -> bool
+        requires { EntryOk (ids_in self.now) }
+        ensures { result ≡ is_contained (ids_in self.now) (generation_in handle.0) (number_in handle.0) }
+    {
+        let generation = handle.generation();
+        let id = handle.id();
+        let number = id.0 as usize;
+        if self.head.used <= number {
+            return is_reserved_new(self.head, generation, number);
+        }
+        if at(self.generations, number) != generation {
+            return false;
+        }
+        if at(self.indices, number) != MAX {
+            return true;
+        }
+        has(&self.pending[self.head.free()..self.head.pending], id.0)
     }
-    if at(generations, number) != generation {
-        return false;
-    }
-    if at(indices, number) != MAX {
-        return true;
-    }
-    let free = head.free();
-    let count = head.pending;
-    has(&pending[free..count], id.0)
-}
 
-pub fn contains(
-    head: Head,
-    generations: &[u32],
-    archetypes: &[u32],
-    indices: &[u32],
-    pending: &[u32],
-    bits: u64,
-) -> Contained
-    ensures { contained_of result ≡ containing (ids_of head generations.now archetypes.now indices.now pending.now) bits }
-{
-    if let Tested::Refused(r) = tested(head, generations, archetypes, indices, pending, false) {
-        return Contained::Refused(r);
+    pub fn contains(&self, bits: u64) -> Result<bool, Refusal>
+        ensures { answer_of result ≡ containing (ids_in self.now) bits }
+    {
+        self.tested(false)?;
+        let Ok(handle) = Handle::from_bits(bits) else {
+            return Err(Refusal::ZeroGeneration);
+        };
+        Ok(self.is_contained(handle))
     }
-    let Bits::Good(handle) = Handle::from_bits(bits) else {
-        return Contained::Refused(Refusal::ZeroGeneration);
-    };
-    Contained::Is(is_contained(head, generations, archetypes, indices, pending, handle))
-}
 
-// What `get` answers of a handle, past the first tests.
-pub fn got(
-    head: Head,
-    generations: &[u32],
-    archetypes: &[u32],
-    indices: &[u32],
-    pending: &[u32],
-    handle: Handle,
-) -> Found
-    ensures { found_of result ≡ place_got (ids_of head generations.now archetypes.now indices.now pending.now) (generation_in handle.0) (number_in handle.0) }
-{
-    let generation = handle.generation();
-    let id = handle.id();
-    let number = id.0 as usize;
-    if is_live(head.used, generations, indices, generation, number) {
-        return Found::At(Place {
-            archetype: at(archetypes, number),
-            index: Row(at(indices, number)),
-        });
+    // What `get` answers of a handle, past the first tests.
+    pub fn got(&self, handle: Handle) -> Result<Place, Refusal>
+        ensures { answer_of result ≡ place_got (ids_in self.now) (generation_in handle.0) (number_in handle.0) }
+    {
+        let generation = handle.generation();
+        let number = handle.id().0 as usize;
+        if self.is_live(generation, number) {
+            return Ok(self.place_at(number));
+        }
+        if is_reserved_new(self.head, generation, number) {
+            return Ok(Place::EMPTY);
+        }
+        Err(Refusal::NoSuchEntity)
     }
-    if is_reserved_new(head, generation, number) {
-        return Found::At(Place::EMPTY);
-    }
-    Found::Refused(Refusal::NoSuchEntity)
-}
 
-pub fn get(
-    head: Head,
-    generations: &[u32],
-    archetypes: &[u32],
-    indices: &[u32],
-    pending: &[u32],
-    bits: u64,
-) -> Found
-    ensures { found_of result ≡ getting (ids_of head generations.now archetypes.now indices.now pending.now) bits }
-{
-    if let Tested::Refused(r) = tested(head, generations, archetypes, indices, pending, false) {
-        return Found::Refused(r);
+    pub fn get(&self, bits: u64) -> Result<Place, Refusal>
+        ensures { answer_of result ≡ getting (ids_in self.now) bits }
+    {
+        self.tested(false)?;
+        let Ok(handle) = Handle::from_bits(bits) else {
+            return Err(Refusal::ZeroGeneration);
+        };
+        self.got(handle)
     }
-    let Bits::Good(handle) = Handle::from_bits(bits) else {
-        return Found::Refused(Refusal::ZeroGeneration);
-    };
-    got(head, generations, archetypes, indices, pending, handle)
 }

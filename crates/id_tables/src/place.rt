@@ -1,14 +1,13 @@
 // The call that sets a place.
-ghost use Rattle.refusal.specs.Table.{Did, test_of};
+ghost use Rattle.refusal.specs.Table.{Did, answer_of};
 ghost use Rattle.handle.specs.Bits.{generation_in, number_in};
 ghost use Rattle.id_tables.specs.Ids.{ids_of};
 ghost use Rattle.id_tables.specs.Lookup.{place_set, setting_place};
 
-use crate::entry::tested;
 use crate::head::Head;
-use crate::tables::{is_live, put_place};
-use handle::{Bits, Handle, MAX, Place};
-use refusal::{Refusal, Tested};
+use crate::tables::{IdTables, put_place};
+use handle::{Handle, MAX, Place};
+use refusal::Refusal;
 
 fn place_set(
     head: Head,
@@ -18,28 +17,30 @@ fn place_set(
     pending: &[u32],
     place: Place,
     handle: Handle,
-) -> Tested
-    ensures { Did (place_set (ids_of head generations.now archetypes.old indices.old pending.now) place (generation_in handle.0) (number_in handle.0)) (ids_of head generations.now archetypes.old indices.old pending.now) (test_of result) (ids_of head generations.now archetypes.new indices.new pending.now) }
+) -> Result<(), Refusal>
+    ensures { let lent = ids_of head generations.now archetypes.old indices.old pending.now in
+        let left = ids_of head generations.now archetypes.new indices.new pending.now in
+        Did (place_set lent place (generation_in handle.0) (number_in handle.0)) lent (answer_of result) left }
 {
-    let row = place.index;
-    if MAX <= row.0 {
-        return Tested::Refused(Refusal::BadPlace);
+    if MAX <= place.index.0 {
+        return Err(Refusal::BadPlace);
     }
     let id = handle.id();
-    if !is_live(
-        head.used,
+    let ids = IdTables {
+        head,
         generations,
+        archetypes,
         indices,
-        handle.generation(),
-        id.0 as usize,
-    ) {
-        return Tested::Refused(Refusal::NoSuchEntity);
+        pending,
+    };
+    if !ids.is_live(handle.generation(), id.0 as usize) {
+        return Err(Refusal::NoSuchEntity);
     }
     put_place(archetypes, indices, id, place);
-    Tested::Passed
+    Ok(())
 }
 
-// hecs's `get_mut`: sets the place of a live entity.
+// hecs's `get_mut`: sets the place of a live entity. The tables are lent one by one, for C lends those that are only read as const, and no struct of `&mut` could hold them.
 pub fn set_place(
     head: Head,
     generations: &[u32],
@@ -48,14 +49,21 @@ pub fn set_place(
     pending: &[u32],
     bits: u64,
     place: Place,
-) -> Tested
-    ensures { Did (setting_place (ids_of head generations.now archetypes.old indices.old pending.now) bits place) (ids_of head generations.now archetypes.old indices.old pending.now) (test_of result) (ids_of head generations.now archetypes.new indices.new pending.now) }
+) -> Result<(), Refusal>
+    ensures { let lent = ids_of head generations.now archetypes.old indices.old pending.now in
+        let left = ids_of head generations.now archetypes.new indices.new pending.now in
+        Did (setting_place lent bits place) lent (answer_of result) left }
 {
-    if let Tested::Refused(r) = tested(head, generations, archetypes, indices, pending, false) {
-        return Tested::Refused(r);
-    }
-    let Bits::Good(handle) = Handle::from_bits(bits) else {
-        return Tested::Refused(Refusal::ZeroGeneration);
+    let ids = IdTables {
+        head,
+        generations,
+        archetypes,
+        indices,
+        pending,
+    };
+    ids.tested(false)?;
+    let Ok(handle) = Handle::from_bits(bits) else {
+        return Err(Refusal::ZeroGeneration);
     };
     place_set(
         head,

@@ -1,22 +1,27 @@
-// Entries of the id tables: read and written past the end too, so that a caller need not know how long a table is.
+// The id tables as lent to be read, and their entries: read and written past the end too, so that a caller need not know how long a table is.
 ghost use Rattle.std.specs.Prelude.{◌≡◌, slice_index, slice_set};
-ghost use Rattle.handle.specs.Bits.{place_of};
-ghost use Rattle.id_tables.specs.Ids.{damaged_in, live_in};
+ghost use Rattle.id_tables.specs.Ids.{ids_in, damaged, live, place_at};
 
 use crate::head::Head;
 use handle::{MAX, Number, Place, Row};
+
+#[derive(Clone, Copy)]
+pub struct IdTables<'a> {
+    pub head: Head,
+    pub generations: &'a [u32],
+    pub archetypes: &'a [u32],
+    pub indices: &'a [u32],
+    pub pending: &'a [u32],
+}
 
 // What stands at a position, and 0 past the end.
 pub fn at(table: &[u32], position: usize) -> u32
     ensures { result ≡ slice_index table.now position }
 {
-    if position < table.len() {
-        return table[position];
-    }
-    0
+    table.get(position).copied().unwrap_or(0)
 }
 
-// Stores at a position, and nothing past the end.
+// Stores at a position, and nothing past the end. By `get_mut` the proof doesn't close: a slice's says nothing of the entries that are left.
 pub fn put(table: &mut [u32], position: usize, value: u32)
     ensures { table.new ≡ slice_set table.old position value }
 {
@@ -30,49 +35,44 @@ pub fn put_place(archetypes: &mut [u32], indices: &mut [u32], number: Number, pl
     ensures { (archetypes.new ≡ slice_set archetypes.old number.0 place.archetype) × (indices.new ≡ slice_set indices.old number.0 place.index.0) }
 {
     let n = number.0 as usize;
-    let row = place.index;
     put(archetypes, n, place.archetype);
-    put(indices, n, row.0);
+    put(indices, n, place.index.0);
 }
 
-// A pending number that a call is to use is damaged.
-pub fn is_damaged(used: usize, generations: &[u32], indices: &[u32], number: usize) -> bool
-    ensures { result ≡ damaged_in used generations.now indices.now number }
-{
-    if used <= number {
-        return true;
+impl IdTables<'_> {
+    // A pending number that a call is to use is damaged.
+    pub fn is_damaged(&self, number: usize) -> bool
+        ensures { result ≡ damaged (ids_in self.now) number }
+    {
+        if self.head.used <= number {
+            return true;
+        }
+        if at(self.generations, number) == 0 {
+            return true;
+        }
+        at(self.indices, number) != MAX
     }
-    if at(generations, number) == 0 {
-        return true;
-    }
-    at(indices, number) != MAX
-}
 
-// A number below used has this generation and a place.
-pub fn is_live(
-    used: usize,
-    generations: &[u32],
-    indices: &[u32],
-    generation: u32,
-    number: usize,
-) -> bool
-    ensures { result ≡ live_in used generations.now indices.now generation number }
-{
-    if used <= number {
-        return false;
+    // A number below used has this generation and a place.
+    pub fn is_live(&self, generation: u32, number: usize) -> bool
+        ensures { result ≡ live (ids_in self.now) generation number }
+    {
+        if self.head.used <= number {
+            return false;
+        }
+        if at(self.generations, number) != generation {
+            return false;
+        }
+        at(self.indices, number) != MAX
     }
-    if at(generations, number) != generation {
-        return false;
-    }
-    at(indices, number) != MAX
-}
 
-// The place of a number, or that of zeros past the end.
-pub fn place_at(archetypes: &[u32], indices: &[u32], number: usize) -> Place
-    ensures { result ≡ place_of (slice_index archetypes.now number) (slice_index indices.now number) }
-{
-    Place {
-        archetype: at(archetypes, number),
-        index: Row(at(indices, number)),
+    // The place of a number, or that of zeros past the end.
+    pub fn place_at(&self, number: usize) -> Place
+        ensures { result ≡ place_at (ids_in self.now) number }
+    {
+        Place {
+            archetype: at(self.archetypes, number),
+            index: Row(at(self.indices, number)),
+        }
     }
 }

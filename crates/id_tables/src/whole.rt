@@ -1,75 +1,53 @@
 // The calls that take no handle: a number resolved, the live count, clear.
-ghost use Rattle.std.specs.Prelude.{◌≡◌, if◌then◌else◌, nat_lt, slice_index};
-ghost use Rattle.refusal.specs.Table.{Did};
-ghost use Rattle.id_tables.specs.Ids.{ids_of};
-ghost use Rattle.id_tables.specs.Lookup.{resolving, counting, clearing, resolved_of, counted_of, done_of, head_after};
+ghost use Rattle.std.specs.Prelude.{◌≡◌, if◌then◌else◌, nat_lt};
+ghost use Rattle.refusal.specs.Table.{Did, answer_of};
+ghost use Rattle.handle.specs.Bits.{handle_of};
+ghost use Rattle.id_tables.specs.Ids.{ids_in, generation_at};
+ghost use Rattle.id_tables.specs.Lookup.{resolving, counting, clearing};
 
-use crate::entry::tested;
 use crate::head::Head;
-use crate::lookup::{Counted, Done, Resolved};
-use crate::tables::at;
-use handle::{Bits, Handle, Number};
-use refusal::{Refusal, Tested};
+use crate::tables::{IdTables, at};
+use handle::{Handle, Number};
+use refusal::Refusal;
 
-// The stored generation below used, and 1 for a new number.
-fn generation_of(used: usize, generations: &[u32], number: usize) -> u32
-    ensures { result ≡ (if nat_lt number used then slice_index generations.now number else 1) }
-{
-    if number < used {
-        return at(generations, number);
+impl IdTables<'_> {
+    // The stored generation below used, and 1 for a new number.
+    fn generation_of(&self, number: usize) -> u32
+        ensures { result ≡ (if nat_lt number self.now.head.used then generation_at (ids_in self.now) number else 1) }
+    {
+        if number < self.head.used {
+            return at(self.generations, number);
+        }
+        1
     }
-    1
-}
 
-pub fn resolve_unknown_gen(
-    head: Head,
-    generations: &[u32],
-    archetypes: &[u32],
-    indices: &[u32],
-    pending: &[u32],
-    number: Number,
-) -> Resolved
-    ensures { resolved_of result ≡ resolving (ids_of head generations.now archetypes.now indices.now pending.now) number.0 }
-{
-    if let Tested::Refused(r) = tested(head, generations, archetypes, indices, pending, false) {
-        return Resolved::Refused(r);
+    pub fn resolve_unknown_gen(&self, number: Number) -> Result<Handle, Refusal>
+        ensures { handle_of result ≡ resolving (ids_in self.now) number.0 }
+    {
+        self.tested(false)?;
+        let n = number.0 as usize;
+        if self.head.used + self.head.fresh() <= n {
+            return Err(Refusal::NoSuchEntity);
+        }
+        let generation = self.generation_of(n);
+        let Ok(handle) = Handle::new(number, generation) else {
+            return Err(Refusal::Damaged);
+        };
+        Ok(handle)
     }
-    let n = number.0 as usize;
-    if head.used + head.fresh() <= n {
-        return Resolved::Refused(Refusal::NoSuchEntity);
-    }
-    let Bits::Good(handle) = Handle::new(number, generation_of(head.used, generations, n)) else {
-        return Resolved::Refused(Refusal::Damaged);
-    };
-    Resolved::Entity(handle)
-}
 
-pub fn len(
-    head: Head,
-    generations: &[u32],
-    archetypes: &[u32],
-    indices: &[u32],
-    pending: &[u32],
-) -> Counted
-    ensures { counted_of result ≡ counting (ids_of head generations.now archetypes.now indices.now pending.now) }
-{
-    if let Tested::Refused(r) = tested(head, generations, archetypes, indices, pending, false) {
-        return Counted::Refused(r);
+    pub fn len(&self) -> Result<usize, Refusal>
+        ensures { answer_of result ≡ counting (ids_in self.now) }
+    {
+        self.tested(false)?;
+        Ok(self.head.live)
     }
-    Counted::Count(head.live)
-}
 
-pub fn clear(
-    head: Head,
-    generations: &[u32],
-    archetypes: &[u32],
-    indices: &[u32],
-    pending: &[u32],
-) -> Done
-    ensures { Did (clearing (ids_of head generations.now archetypes.now indices.now pending.now)) (ids_of head generations.now archetypes.now indices.now pending.now) (done_of result) (ids_of (head_after head result) generations.now archetypes.now indices.now pending.now) }
-{
-    if let Tested::Refused(r) = tested(head, generations, archetypes, indices, pending, false) {
-        return Done::Refused(r);
+    pub fn clear(&mut self) -> Result<(), Refusal>
+        ensures { Did (clearing (ids_in self.old)) (ids_in self.old) (answer_of result) (ids_in self.new) }
+    {
+        self.tested(false)?;
+        self.head = Head::flushed(0, 0, 0);
+        Ok(())
     }
-    Done::Granted(Head::flushed(0, 0, 0))
 }

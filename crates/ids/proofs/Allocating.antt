@@ -8,18 +8,21 @@ use mathlib.Core.List.{List, [], ◌∷◌}
 use native.Mathlib.Omega.{arith}
 use native.Mathlib.Nat.{pos_of_ne-zero}
 use borrow.Author.Tests.{lt-ltb, le-ltb, le-leb, lt-leb}
+use lib.Dec.{lit<}
 use lib.ListN.{set}
+use Rattle.std.specs.Prelude.{Result}
 use Rattle.refusal.specs.Table.{granted, refused, ◌when◌, ◌or_else◌, passing, Did}
 use Rattle.refusal.specs.Laws.{go, past}
-use Rattle.handle.specs.Bits.{MAX, bits_of}
+use Rattle.refusal.specs.declared.Refusal.{Refusal}
+use Rattle.handle.specs.Bits.{MAX, handle_of, new_handle}
+use Rattle.handle.specs.declared.Handle.{Handle}
 use Rattle.handle.specs.declared.Place.{Place}
 use Rattle.id_tables.specs.declared.head.Head.{Head}
 use Rattle.id_tables.specs.Head.{flushed, flushed_head}
 use Rattle.id_tables.specs.Ids.{Ids, ids_of, entry, capacity, room, damaged, generation_at}
-use Rattle.ids.specs.declared.Given.{Given}
-use Rattle.ids.specs.Answers.{given_of, given_head, giving}
+use Rattle.id_tables.proofs.Meaning.{Undamaged}
 use Rattle.ids.specs.Alloc.{last_pending, alloc_rules, allocated_last, allocated_new, allocating}
-use Rattle.ids.proofs.Giving.{given_did}
+use Rattle.ids.proofs.Giving.{made, makes_handle, given_did}
 use Rattle.ids.proofs.Passing.{flushed_room, alloc_ok}
 
 -- the tests, one after the other
@@ -63,17 +66,18 @@ module _ (s : Ids) (place : Place) (e : granted tt ≡ passing (alloc_rules s pl
   goes_last z = past (alloc_rules s place) _ e ∙ simp (lt-ltb 0 s.head.pending (pos_of_ne-zero z))
 
 -- the two steps: what they write is what the rule grants
-module _ (s : Ids) (place : Place) (number generation : ℕ) (n : number ≡ last_pending s) (g : generation ≡ generation_at s number) where
-  pub last_did : (r : Given) (left : Head) (archetypes indices : List ℕ)
+module _ (s : Ids) (place : Place) (number generation : ℕ) (u : Undamaged s.head.used s.generations s.indices (last_pending s)) (n : number ≡ last_pending s)
+    (g : generation ≡ generation_at s number) where
+  pub last_did : (r : Result Handle Refusal) (left : Head) (archetypes indices : List ℕ)
       → left ≡ flushed_head s.head.used (s.head.pending - 1) (s.head.live + 1)
       → (archetypes ≡ set s.archetypes number place.archetype) × (indices ≡ set s.indices number place.index.0)
-      → r ≡ giving (bits_of generation number) left
-      → Did (granted (allocated_last s place)) s (given_of r) (ids_of (given_head s.head r) s.generations archetypes indices s.pending)
-  last_did r left archetypes indices l w v = given_did _ _ _ _ v (rw (l, w.0, w.1, g, n))
+      → handle_of r ≡ new_handle number generation
+      → Did (granted (allocated_last s place)) s (handle_of r) (ids_of left s.generations archetypes indices s.pending)
+  last_did r left archetypes indices l w e = given_did (made r number generation e (makes_handle u n g)) (rw (l, w.0, w.1, g, n))
 
-pub new_did : (s : Ids) (place : Place) (r : Given) (left : Head) (generations archetypes indices : List ℕ)
+pub new_did : (s : Ids) (place : Place) (r : Result Handle Refusal) (left : Head) (generations archetypes indices : List ℕ)
     → left ≡ flushed_head (s.head.used + 1) s.head.pending (s.head.live + 1)
     → (generations ≡ set s.generations s.head.used 1) × (archetypes ≡ set s.archetypes s.head.used place.archetype) × (indices ≡ set s.indices s.head.used place.index.0)
-    → r ≡ giving (bits_of 1 s.head.used) left
-    → Did (granted (allocated_new s place)) s (given_of r) (ids_of (given_head s.head r) generations archetypes indices s.pending)
-new_did s place r left generations archetypes indices l w v = given_did _ _ _ _ v (rw (l, w.0, w.1, w.2))
+    → handle_of r ≡ new_handle s.head.used 1
+    → Did (granted (allocated_new s place)) s (handle_of r) (ids_of left generations archetypes indices s.pending)
+new_did s place r left generations archetypes indices l w e = given_did (made r s.head.used 1 e (lit< tt)) (rw (l, w.0, w.1, w.2))

@@ -3,20 +3,26 @@
 use Prim.Native.Nat.{ℕ, ◌<◌}
 use mathlib.Core.Path.{◌≡◌, sym, ◌∙◌}
 use mathlib.Core.List.{List}
+use native.Mathlib.Omega.{arith}
 use native.Mathlib.Nat.{pos_of_ne-zero}
+use borrow.Author.Tests.{ne_eqb}
 use lib.ListN.{get_or}
-use Rattle.refusal.specs.Table.{Answer, granted, Did}
+use Rattle.std.specs.Prelude.{Result}
+use Rattle.refusal.specs.Table.{Answer, granted, ◌or_else◌, Did}
 use Rattle.refusal.specs.Laws.{grant}
-use Rattle.id_tables.specs.declared.head.Head.{Head}
-use Rattle.id_tables.specs.Ids.{Ids, ids_of}
+use Rattle.refusal.specs.declared.Refusal.{Refusal}
+use Rattle.handle.specs.Bits.{bits_of, handle_of, new_handle}
+use Rattle.handle.specs.declared.Handle.{Handle}
 use Rattle.id_tables.proofs.Meaning.{Undamaged}
-use Rattle.ids.specs.declared.Given.{Given}
-use Rattle.ids.specs.Answers.{given_of, given_head, giving}
 
-pub given_did : {rule : Answer (ℕ × Ids)} {s : Ids} {r : Given} {bits : ℕ} {left : Head} (g a x p : List ℕ) → r ≡ giving bits left
-    → rule ≡ granted (bits, ids_of left g a x p) → Did rule s (given_of r) (ids_of (given_head s.head r) g a x p)
-given_did g a x p w e = rw w (grant e)
+pub given_did : {S : Type 0} {rule : Answer (ℕ × S)} {s t : S} {a : Answer ℕ} {bits : ℕ} → a ≡ granted bits → rule ≡ granted (bits, t) → Did rule s a t
+given_did w e = rw w (grant e)
 
--- the generation at an undamaged entry makes a handle
+-- a generation that is not 0 makes a handle
+pub made : (r : Result Handle Refusal) (n g : ℕ) → handle_of r ≡ new_handle n g → 0 < g → handle_of r ≡ granted (bits_of g n)
+unfolding new_handle ◌or_else◌
+made r n g e h = e ∙ simp (ne_eqb g 0 (λ z. omega arith))
+
+-- as that of an undamaged entry is
 pub makes_handle : {used : ℕ} {generations indices : List ℕ} {n m k : ℕ} → Undamaged used generations indices n → m ≡ n → k ≡ get_or generations m 0 → 0 < k
 makes_handle u e g = pos_of_ne-zero (λ z. u.generation (sym (rw e at g) ∙ z))

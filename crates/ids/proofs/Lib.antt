@@ -11,3 +11,4 @@ pub mod Passing
 pub mod Refusing
 mod Reserving
 mod Stepping
+pub mod Heads

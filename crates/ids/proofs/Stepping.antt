@@ -1,32 +1,67 @@
--- One turn of each loop: a scan for a position, a run of numbers.
+-- Where a number stands first, as the library's search answers it; a run of numbers, one by one.
 -- Assumes nothing.
 use Prim.Native.Nat.{ℕ, suc, ◌+◌, ◌-◌, ◌<◌, ◌≤◌}
-use mathlib.Core.Path.{◌≡◌, sym}
-use mathlib.Core.Bool.{true}
+use mathlib.Core.Path.{◌≡◌, refl, sym}
+use mathlib.Core.Bool.{Bool, true, false, cond}
 use mathlib.Core.List.{List}
 use native.Mathlib.Omega.{arith}
 use native.Mathlib.Numerals.{add-one}
-use borrow.Author.Tests.{lt-ltb, eq-eqb, ne_eqb}
+use borrow.Author.Tests.{lt-ltb, ltb-true, ltb-false}
 use lib.Dec.{ltb}
-use lib.ListN.{length, get_or, take, set, length-take, drop_of_length-le}
-use lib.Seq.{sets, slice, slice-cons}
+use lib.ListN.{length, take, set, length-take}
+use lib.Seq.{sets}
+use Rattle.std.specs.Prelude.{Option, Some, None, ◌==◌, position}
+use Rattle.std.specs.List.{position_or_len}
+use Rattle.std.specs.Option.{is_some}
+use Rattle.std.proofs.lemmas.List.Recursion.{is_position_or_len}
 use Rattle.id_tables.specs.Runs.{up_from, up_from_none, up_from_cons}
-use Rattle.ids.specs.AllocAt.{position_of}
+use Rattle.id_tables.specs.Ids.{Ids, EntryOk}
+use Rattle.ids.specs.AllocAt.{position_of, pending_at}
 use Rattle.ids.proofs.Listing.{position_in}
 
--- the first position of n in p[i..to], counted from i
-module _ (n : ℕ) (p : List ℕ) (i to : ℕ) where
-  pub found_here : to ≤ length p → i < to → get_or p i 0 ≡ n → position_of n (slice i to p) ≡ 0
+module _ (n : ℕ) where
+  position_is : (ms : List ℕ) → position_of n ms ≡ position_or_len (λ m. m == n) ms
   unfolding position_of
-  found_here k h e = rw (slice-cons i to p 0) (simp (eq-eqb _ _ e))
+  position_is = is_position_or_len (position_of n) (λ m. m == n) refl (λ m ms. let e : 1 + position_of n ms ≡ suc (position_of n ms) = omega arith in rw e)
 
-  pub found_later : to ≤ length p → i < to → (get_or p i 0 ≡ n → ⊥) → position_of n (slice i to p) ≡ suc (position_of n (slice (i + 1) to p))
-  unfolding position_of
-  found_later k h ne = rw (slice-cons i to p 0, add-one) (simp (ne_eqb _ _ ne))
+  stands : (at : ℕ) (ms : List ℕ) → Some at ≡ position (λ m. m == n) ms → (at ≡ position_of n ms) × (position_of n ms < length ms)
+  stands at ms e = rw (position_is ms) (by (ltb (position_or_len (λ m. m == n) ms) (length ms)) refl e)
+    where
+      by : (t : Bool) → ltb (position_or_len (λ m. m == n) ms) (length ms) ≡ t → Some at ≡ cond t (Some (position_or_len (λ m. m == n) ms)) None
+          → (at ≡ position_or_len (λ m. m == n) ms) × (position_or_len (λ m. m == n) ms < length ms)
+      by true q w = (cc, ltb-true _ _ q)
+      by false q w = cc
 
-  pub found_nowhere : to ≤ i → position_of n (slice i to p) ≡ 0
-  unfolding position_of
-  found_nowhere h = let k : length (take to p) ≤ i = rw length-take (omega arith) in rw (drop_of_length-le (take to p) k)
+  absent : (ms : List ℕ) → None ≡ position (λ m. m == n) ms → length ms ≤ position_of n ms
+  absent ms e = rw (position_is ms) (by (ltb (position_or_len (λ m. m == n) ms) (length ms)) refl e)
+    where
+      by : (t : Bool) → ltb (position_or_len (λ m. m == n) ms) (length ms) ≡ t → None ≡ cond t (Some (position_or_len (λ m. m == n) ms)) None
+          → length ms ≤ position_or_len (λ m. m == n) ms
+      by true q w = cc
+      by false q w = ltb-false _ _ q
+
+  pub is_there : (o : Option ℕ) (p : List ℕ) (count : ℕ) → count ≤ length p → o ≡ position (λ m. m == n) (take count p)
+      → is_some o ≡ ltb (position_of n (take count p)) count
+  is_there o p count h e =
+      let k : length (take count p) ≡ count = rw length-take (omega arith) in
+      rw (e, position_is (take count p), k) (by (ltb (position_or_len (λ m. m == n) (take count p)) count))
+    where
+      by : (t : Bool) → is_some (cond t (Some (position_or_len (λ m. m == n) (take count p))) None) ≡ t
+      by true = refl
+      by false = refl
+
+-- of the pending numbers: where the number is found, and what its absence says
+module _ (s : Ids) (n : ℕ) (ok : EntryOk s) where
+  pub pending_stands : (at : ℕ) → Some at ≡ position (λ m. m == n) (take s.head.pending s.pending) → (at ≡ pending_at s n) × (pending_at s n < s.head.pending)
+  pending_stands at e =
+      let h = stands n at (take s.head.pending s.pending) e in
+      let k : length (take s.head.pending s.pending) ≤ s.head.pending = rw length-take (omega arith) in
+      (h.0, omega (arith, h.1))
+
+  pub pending_absent : None ≡ position (λ m. m == n) (take s.head.pending s.pending) → s.head.pending ≤ pending_at s n
+  pending_absent e =
+      let k : length (take s.head.pending s.pending) ≡ s.head.pending = rw length-take (omega (arith, ok.pending_long, ok.used_in, ok.pending_in)) in
+      omega (arith, absent n (take s.head.pending s.pending) e)
 
 -- a list shorter than its count ends before it
 pub short_list : (n : ℕ) (p : List ℕ) (count : ℕ) → length p < count → true ≡ ltb (position_of n (take count p)) count

@@ -24,6 +24,14 @@ reserved_generation s = cond (has_free s) (generation_at s (last_free s)) 1
 abbrev pub reserved_ids : Ids → Ids
 reserved_ids s = ids_of (fallen s.head 1) s.generations s.archetypes s.indices s.pending
 
+-- past the first tests
+unfoldable pub next_reserved : Ids → Answer ℕ
+next_reserved s =
+    4 when ltb (room s) 1
+    ∷ 1 when (has_free s && damaged s (last_free s))
+    ∷ []
+    otherwise bits_of (reserved_generation s) (reserved_number s)
+
 unfoldable pub reserving : Ids → Answer (ℕ × Ids)
 reserving s =
     entry s false

@@ -1,50 +1,55 @@
 // Free a number.
 ghost use Rattle.std.specs.Prelude.{◌≡◌};
-ghost use Rattle.refusal.specs.Table.{Did};
+ghost use Rattle.refusal.specs.Table.{Did, answer_of};
 ghost use Rattle.handle.specs.Bits.{generation_in, number_in};
 ghost use Rattle.id_tables.specs.Ids.{ids_of, EntryOk};
-ghost use Rattle.ids.specs.Answers.{freed_of, freed_head};
 ghost use Rattle.ids.specs.Free.{next_generation, freed, freeing};
 
-use crate::{Freed, settle};
-use handle::{Bits, Handle, MAX, Place};
-use id_tables::{Head, is_live, place_at, put, tested};
-use refusal::{Refusal, Tested};
+use crate::settle;
+use handle::{Handle, Place};
+use id_tables::{Head, IdTables, put};
+use refusal::Refusal;
 
 // The generation after this one: never 0.
 fn next_generation(generation: u32) -> u32
     ensures { result ≡ next_generation generation }
 {
-    if generation == MAX {
-        return 1;
-    }
-    generation + 1
+    generation.checked_add(1).unwrap_or(1)
 }
 
 fn freed(
-    head: Head,
+    head: &mut Head,
     generations: &mut [u32],
     archetypes: &mut [u32],
     indices: &mut [u32],
     pending: &mut [u32],
     handle: Handle,
-) -> Freed
-    requires { EntryOk (ids_of head generations.old archetypes.old indices.old pending.old) }
-    ensures { Did (freed (ids_of head generations.old archetypes.old indices.old pending.old) (generation_in handle.0) (number_in handle.0)) (ids_of head generations.old archetypes.old indices.old pending.old) (freed_of result) (ids_of (freed_head head result) generations.new archetypes.new indices.new pending.new) }
+) -> Result<Place, Refusal>
+    requires { EntryOk (ids_of head.old generations.old archetypes.old indices.old pending.old) }
+    ensures { let lent = ids_of head.old generations.old archetypes.old indices.old pending.old in
+        let left = ids_of head.new generations.new archetypes.new indices.new pending.new in
+        Did (freed lent (generation_in handle.0) (number_in handle.0)) lent (answer_of result) left }
 {
-    if !head.is_flushed() {
-        return Freed::Refused(Refusal::NotFlushed);
+    let ids = IdTables {
+        head: *head,
+        generations,
+        archetypes,
+        indices,
+        pending,
+    };
+    if !ids.head.is_flushed() {
+        return Err(Refusal::NotFlushed);
     }
     let id = handle.id();
     let n = id.0 as usize;
     let generation = handle.generation();
-    if !is_live(head.used, generations, indices, generation, n) {
-        return Freed::Refused(Refusal::NoSuchEntity);
+    if !ids.is_live(generation, n) {
+        return Err(Refusal::NoSuchEntity);
     }
-    if head.live == 0 {
-        return Freed::Refused(Refusal::Damaged);
+    if ids.head.live == 0 {
+        return Err(Refusal::Damaged);
     }
-    let old = place_at(archetypes, indices, n);
+    let old = ids.place_at(n);
     settle(
         generations,
         archetypes,
@@ -54,28 +59,33 @@ fn freed(
         Place::EMPTY,
     );
     put(pending, head.pending, id.0);
-    Freed::From(
-        old,
-        Head::flushed(head.used, (head.pending + 1) as u32, head.live - 1),
-    )
+    *head = Head::flushed(head.used, (head.pending + 1) as u32, head.live - 1);
+    Ok(old)
 }
 
-// hecs's `free`.
+// hecs's `free`. The tables stay slices, as in `alloc`, to which C lends one of them const: a struct of `&mut` would serve two calls alone.
 pub fn free(
-    head: Head,
+    head: &mut Head,
     generations: &mut [u32],
     archetypes: &mut [u32],
     indices: &mut [u32],
     pending: &mut [u32],
     bits: u64,
-) -> Freed
-    ensures { Did (freeing (ids_of head generations.old archetypes.old indices.old pending.old) bits) (ids_of head generations.old archetypes.old indices.old pending.old) (freed_of result) (ids_of (freed_head head result) generations.new archetypes.new indices.new pending.new) }
+) -> Result<Place, Refusal>
+    ensures { let lent = ids_of head.old generations.old archetypes.old indices.old pending.old in
+        let left = ids_of head.new generations.new archetypes.new indices.new pending.new in
+        Did (freeing lent bits) lent (answer_of result) left }
 {
-    if let Tested::Refused(r) = tested(head, generations, archetypes, indices, pending, false) {
-        return Freed::Refused(r);
-    }
-    let Bits::Good(handle) = Handle::from_bits(bits) else {
-        return Freed::Refused(Refusal::ZeroGeneration);
+    let ids = IdTables {
+        head: *head,
+        generations,
+        archetypes,
+        indices,
+        pending,
+    };
+    ids.tested(false)?;
+    let Ok(handle) = Handle::from_bits(bits) else {
+        return Err(Refusal::ZeroGeneration);
     };
     freed(head, generations, archetypes, indices, pending, handle)
 }

@@ -7,51 +7,15 @@ mod runs;
 mod take_chosen;
 mod take_next;
 
-ghost use Rattle.std.specs.Prelude.{◌≡◌, ◌<◌, set};
-ghost use Rattle.handle.specs.Bits.{bits_of};
-ghost use Rattle.ids.specs.Answers.{giving};
+ghost use Rattle.std.specs.Prelude.{◌≡◌, set};
 
 pub use give_back::free;
-use handle::{Bits, Handle, Number, Place};
-use id_tables::{Head, put, put_place};
-use refusal::Refusal;
+use handle::{Number, Place};
+use id_tables::{put, put_place};
 pub use reserve::reserve_entity;
 pub use runs::is_pending;
 pub use take_chosen::alloc_at;
 pub use take_next::alloc;
-
-// The handle that is given, with the head that is left.
-#[derive(Clone, Copy)]
-pub enum Given {
-    Entity(Handle, Head),
-    Refused(Refusal),
-}
-
-// The place that the freed number had.
-#[derive(Clone, Copy)]
-pub enum Freed {
-    From(Place, Head),
-    Refused(Refusal),
-}
-
-// The chosen number was not live, or it was, at this place. The head stands first in both, so that it has one place in the answer.
-#[derive(Clone, Copy)]
-pub enum Chosen {
-    Fresh(Head),
-    Over(Head, Place),
-    Refused(Refusal),
-}
-
-// Gives a number out. Its generation is not 0, so that it makes a handle.
-pub(crate) fn give(number: Number, generation: u32, head: Head) -> Given
-    requires { 0 < generation }
-    ensures { result ≡ giving (bits_of generation number.0) head }
-{
-    let Bits::Good(handle) = Handle::new(number, generation) else {
-        return Given::Refused(Refusal::Damaged);
-    };
-    Given::Entity(handle, head)
-}
 
 // Writes a number's generation and place.
 pub(crate) fn settle(

@@ -1,42 +1,40 @@
 // Reserve one number.
+ghost use Rattle.std.specs.Prelude.{◌≡◌};
 ghost use Rattle.refusal.specs.Table.{Did};
-ghost use Rattle.id_tables.specs.Ids.{ids_of};
-ghost use Rattle.ids.specs.Answers.{given_of, given_head};
-ghost use Rattle.ids.specs.Reserve.{reserving};
+ghost use Rattle.handle.specs.Bits.{handle_of};
+ghost use Rattle.id_tables.specs.Ids.{ids_in, EntryOk};
+ghost use Rattle.ids.specs.Reserve.{next_reserved, reserving};
 
-use crate::{Given, give};
-use handle::Number;
-use id_tables::{Head, at, is_damaged, tested};
-use refusal::{Refusal, Tested};
+use handle::{Handle, Number};
+use id_tables::{IdTables, at};
+use refusal::Refusal;
+
+// The handle that the next reservation gives out: of a free number, or of the next new one.
+fn next_reserved(ids: &IdTables<'_>) -> Result<Handle, Refusal>
+    requires { EntryOk (ids_in ids.now) }
+    ensures { handle_of result ≡ next_reserved (ids_in ids.now) }
+{
+    let free = ids.head.free();
+    if free == 0 {
+        let next = ids.head.used + ids.head.fresh();
+        if ids.generations.len() <= next {
+            return Err(Refusal::NoRoom);
+        }
+        return Handle::new(Number(next as u32), 1);
+    }
+    let number = at(ids.pending, free - 1);
+    if ids.is_damaged(number as usize) {
+        return Err(Refusal::Damaged);
+    }
+    Handle::new(Number(number), at(ids.generations, number as usize))
+}
 
 // hecs's `reserve_entity`: a free number, or the next new one, which a flush makes live.
-pub fn reserve_entity(
-    head: Head,
-    generations: &[u32],
-    archetypes: &[u32],
-    indices: &[u32],
-    pending: &[u32],
-) -> Given
-    ensures { Did (reserving (ids_of head generations.now archetypes.now indices.now pending.now)) (ids_of head generations.now archetypes.now indices.now pending.now) (given_of result) (ids_of (given_head head result) generations.now archetypes.now indices.now pending.now) }
+pub fn reserve_entity(ids: &mut IdTables<'_>) -> Result<Handle, Refusal>
+    ensures { Did (reserving (ids_in ids.old)) (ids_in ids.old) (handle_of result) (ids_in ids.new) }
 {
-    if let Tested::Refused(r) = tested(head, generations, archetypes, indices, pending, false) {
-        return Given::Refused(r);
-    }
-    let free = head.free();
-    if free == 0 {
-        let next = head.used + head.fresh();
-        if generations.len() <= next {
-            return Given::Refused(Refusal::NoRoom);
-        }
-        return give(Number(next as u32), 1, head.fallen(1));
-    }
-    let number = at(pending, free - 1);
-    if is_damaged(head.used, generations, indices, number as usize) {
-        return Given::Refused(Refusal::Damaged);
-    }
-    give(
-        Number(number),
-        at(generations, number as usize),
-        head.fallen(1),
-    )
+    ids.tested(false)?;
+    let handle = next_reserved(ids)?;
+    ids.head = ids.head.fallen(1);
+    Ok(handle)
 }

@@ -1,5 +1,5 @@
 // Runs of table entries: found, numbered.
-ghost use Rattle.std.specs.Prelude.{◌≡◌, ◌+◌, ◌-◌, ◌^◌, ◌<◌, ◌≤◌, ltb, length, take};
+ghost use Rattle.std.specs.Prelude.{◌≡◌, ◌+◌, ◌-◌, ◌^◌, ◌<◌, ◌≤◌, ◌==◌, ltb, length, take, position};
 ghost use Rattle.std.proofs.lemmas.List.Edits.{sets};
 ghost use Rattle.id_tables.specs.Runs.{up_from};
 ghost use Rattle.ids.specs.AllocAt.{position_of};
@@ -7,19 +7,11 @@ ghost use Rattle.ids.specs.AllocAt.{position_of};
 use handle::Number;
 use id_tables::Head;
 
-// Where a number stands first among the first entries; their count where it is not there.
-pub(crate) fn position_of(pending: &[u32], count: usize, number: u32) -> usize
-    requires { count ≤ length pending.now }
-    ensures { result ≡ position_of number (take count pending.now) }
+// Where a number stands first.
+pub(crate) fn position_of(entries: &[u32], number: u32) -> Option<usize>
+    ensures { result ≡ position (λ entry. entry == number) entries.now }
 {
-    let mut i = 0;
-    while i < count {
-        if pending[i] == number {
-            return i;
-        }
-        i += 1;
-    }
-    count
+    entries.iter().position(|entry| *entry == number)
 }
 
 // Whether a number stands in the pending list, as the rule of alloc at has it: of a list shorter than its count, any number.
@@ -30,7 +22,7 @@ pub fn is_pending(head: Head, pending: &[u32], number: Number) -> bool
     if pending.len() < count {
         return true;
     }
-    position_of(pending, count, number.0) < count
+    position_of(&pending[..count], number.0).is_some()
 }
 
 // The numbers from..to, ascending, after the first count entries.
@@ -38,11 +30,7 @@ pub(crate) fn queue(pending: &mut [u32], count: usize, from: usize, to: usize)
     requires { (count + (to - from) ≤ length pending.old) × (to < 2 ^ 32) }
     ensures { pending.new ≡ sets pending.old count (up_from from (to - from)) }
 {
-    let mut position = count;
-    let mut number = from;
-    while number < to {
-        pending[position] = number as u32;
-        position += 1;
-        number += 1;
+    for number in from..to {
+        pending[count + (number - from)] = number as u32;
     }
 }

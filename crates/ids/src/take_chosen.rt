@@ -2,34 +2,33 @@
 ghost use Rattle.std.specs.Prelude.{◌≡◌, [], ◌∷◌, ◌+◌, ◌-◌, ◌^◌, ◌<◌, ◌≤◌, eqb, length, replicate};
 ghost use Rattle.std.proofs.Math.Option.{none, some};
 ghost use Rattle.std.proofs.lemmas.List.Edits.{sets};
-ghost use Rattle.refusal.specs.Table.{Did, granted, test_of, passing, ◌when◌, ◌otherwise◌};
+ghost use Rattle.refusal.specs.Table.{Did, granted, answer_of, passing, ◌when◌, ◌otherwise◌};
 ghost use Rattle.handle.specs.Bits.{MAX, generation_in, number_in};
 ghost use Rattle.id_tables.specs.Ids.{ids_of, EntryOk, damaged, index_at, place_at};
 ghost use Rattle.id_tables.specs.Runs.{up_from};
-ghost use Rattle.ids.specs.Answers.{chosen_of, chosen_head};
+ghost use Rattle.ids.specs.Answers.{chosen_of};
 ghost use Rattle.ids.specs.Alloc.{settled};
 ghost use Rattle.ids.specs.AllocAt.{pending_at, stretched, taken_out, chosen_rules, alloc_at, allocating_at};
 
 use crate::runs::{position_of, queue};
-use crate::{Chosen, settle};
-use handle::{Bits, Handle, MAX, Number, Place};
-use id_tables::{Head, at, fill, is_damaged, place_at, put, tested};
-use refusal::{Refusal, Tested};
+use crate::settle;
+use handle::{Handle, MAX, Number, Place};
+use id_tables::{Head, IdTables, at, fill, put};
+use refusal::Refusal;
 
-fn chosen_tested(head: Head, capacity: usize, place: Place, n: usize) -> Tested
-    ensures { test_of result ≡ passing (chosen_rules head capacity place n) }
+fn chosen_tested(head: Head, capacity: usize, place: Place, n: usize) -> Result<(), Refusal>
+    ensures { answer_of result ≡ passing (chosen_rules head capacity place n) }
 {
     if !head.is_flushed() {
-        return Tested::Refused(Refusal::NotFlushed);
+        return Err(Refusal::NotFlushed);
     }
-    let row = place.index;
-    if MAX <= row.0 {
-        return Tested::Refused(Refusal::BadPlace);
+    if MAX <= place.index.0 {
+        return Err(Refusal::BadPlace);
     }
     if capacity <= n {
-        return Tested::Refused(Refusal::NoRoom);
+        return Err(Refusal::NoRoom);
     }
-    Tested::Passed
+    Ok(())
 }
 
 // The numbers used to n - 1 become pending, after the first count entries.
@@ -53,7 +52,7 @@ fn stretch(
 
 // A number that was never used.
 fn take_past(
-    head: Head,
+    head: &mut Head,
     generations: &mut [u32],
     archetypes: &mut [u32],
     indices: &mut [u32],
@@ -61,22 +60,24 @@ fn take_past(
     place: Place,
     generation: u32,
     number: Number,
-) -> Chosen
-    requires entry_ok { EntryOk (ids_of head generations.old archetypes.old indices.old pending.old) }
-    requires used_le_number { (head.used ≤ number.0) × (number.0 < length generations.old) }
-    ensures { Did (granted (none, settled (stretched (ids_of head generations.old archetypes.old indices.old pending.old) number.0) number.0 generation place)) (ids_of head generations.old archetypes.old indices.old pending.old) (chosen_of result) (ids_of (chosen_head head result) generations.new archetypes.new indices.new pending.new) }
+)
+    requires entry_ok { EntryOk (ids_of head.old generations.old archetypes.old indices.old pending.old) }
+    requires used_le_number { (head.old.used ≤ number.0) × (number.0 < length generations.old) }
+    ensures { let lent = ids_of head.old generations.old archetypes.old indices.old pending.old in
+        let left = ids_of head.new generations.new archetypes.new indices.new pending.new in
+        left ≡ settled (stretched lent number.0) number.0 generation place }
 {
     let n = number.0 as usize;
     let used = head.used;
     let count = head.pending;
     stretch(generations, archetypes, indices, pending, used, count, n);
     settle(generations, archetypes, indices, number, generation, place);
-    Chosen::Fresh(Head::flushed(n + 1, (count + (n - used)) as u32, head.live + 1))
+    *head = Head::flushed(n + 1, (count + (n - used)) as u32, head.live + 1);
 }
 
 // A pending number: the last entry is moved into its position.
 fn take_pending(
-    head: Head,
+    head: &mut Head,
     generations: &mut [u32],
     archetypes: &mut [u32],
     indices: &mut [u32],
@@ -85,19 +86,29 @@ fn take_pending(
     generation: u32,
     number: Number,
     position: usize,
-) -> Chosen
-    requires entry_ok { EntryOk (ids_of head generations.old archetypes.old indices.old pending.old) }
-    requires position_value { (position ≡ pending_at (ids_of head generations.old archetypes.old indices.old pending.old) number.0) × (0 < head.pending) }
-    ensures { Did (1 when damaged (ids_of head generations.old archetypes.old indices.old pending.old) number.0 ∷ [] otherwise (none, settled (taken_out (ids_of head generations.old archetypes.old indices.old pending.old) number.0) number.0 generation place)) (ids_of head generations.old archetypes.old indices.old pending.old) (chosen_of result) (ids_of (chosen_head head result) generations.new archetypes.new indices.new pending.new) }
+) -> Result<Option<Place>, Refusal>
+    requires entry_ok { EntryOk (ids_of head.old generations.old archetypes.old indices.old pending.old) }
+    requires position_value { (position ≡ pending_at (ids_of head.old generations.old archetypes.old indices.old pending.old) number.0) × (0 < head.old.pending) }
+    ensures { let lent = ids_of head.old generations.old archetypes.old indices.old pending.old in
+        let left = ids_of head.new generations.new archetypes.new indices.new pending.new in
+        Did (1 when damaged lent number.0 ∷ [] otherwise (none, settled (taken_out lent number.0) number.0 generation place)) lent (chosen_of result) left }
 {
-    if is_damaged(head.used, generations, indices, number.0 as usize) {
-        return Chosen::Refused(Refusal::Damaged);
+    let ids = IdTables {
+        head: *head,
+        generations,
+        archetypes,
+        indices,
+        pending,
+    };
+    if ids.is_damaged(number.0 as usize) {
+        return Err(Refusal::Damaged);
     }
     let last = head.pending - 1;
     let moved = at(pending, last);
     put(pending, position, moved);
     settle(generations, archetypes, indices, number, generation, place);
-    Chosen::Fresh(Head::flushed(head.used, last as u32, head.live + 1))
+    *head = Head::flushed(head.used, last as u32, head.live + 1);
+    Ok(None)
 }
 
 // A live number, which is taken over.
@@ -110,38 +121,46 @@ fn take_over(
     place: Place,
     generation: u32,
     number: Number,
-) -> Chosen
-    ensures { Did (1 when eqb (index_at (ids_of head generations.old archetypes.old indices.old pending.now) number.0) MAX ∷ [] otherwise (some (place_at (ids_of head generations.old archetypes.old indices.old pending.now) number.0), settled (ids_of head generations.old archetypes.old indices.old pending.now) number.0 generation place)) (ids_of head generations.old archetypes.old indices.old pending.now) (chosen_of result) (ids_of (chosen_head head result) generations.new archetypes.new indices.new pending.now) }
+) -> Result<Option<Place>, Refusal>
+    ensures { let lent = ids_of head generations.old archetypes.old indices.old pending.now in
+        let left = ids_of head generations.new archetypes.new indices.new pending.now in
+        Did (1 when eqb (index_at lent number.0) MAX ∷ [] otherwise (some (place_at lent number.0), settled lent number.0 generation place)) lent (chosen_of result) left }
 {
-    let old = place_at(archetypes, indices, number.0 as usize);
-    let row = old.index;
-    if row.0 == MAX {
-        return Chosen::Refused(Refusal::Damaged);
+    let ids = IdTables {
+        head,
+        generations,
+        archetypes,
+        indices,
+        pending,
+    };
+    let old = ids.place_at(number.0 as usize);
+    if old.index.0 == MAX {
+        return Err(Refusal::Damaged);
     }
     settle(generations, archetypes, indices, number, generation, place);
-    Chosen::Over(head, old)
+    Ok(Some(old))
 }
 
 fn alloced_at(
-    head: Head,
+    head: &mut Head,
     generations: &mut [u32],
     archetypes: &mut [u32],
     indices: &mut [u32],
     pending: &mut [u32],
     place: Place,
     handle: Handle,
-) -> Chosen
-    requires { EntryOk (ids_of head generations.old archetypes.old indices.old pending.old) }
-    ensures { Did (alloc_at (ids_of head generations.old archetypes.old indices.old pending.old) place (generation_in handle.0) (number_in handle.0)) (ids_of head generations.old archetypes.old indices.old pending.old) (chosen_of result) (ids_of (chosen_head head result) generations.new archetypes.new indices.new pending.new) }
+) -> Result<Option<Place>, Refusal>
+    requires { EntryOk (ids_of head.old generations.old archetypes.old indices.old pending.old) }
+    ensures { let lent = ids_of head.old generations.old archetypes.old indices.old pending.old in
+        let left = ids_of head.new generations.new archetypes.new indices.new pending.new in
+        Did (alloc_at lent place (generation_in handle.0) (number_in handle.0)) lent (chosen_of result) left }
 {
     let id = handle.id();
     let generation = handle.generation();
     let n = id.0 as usize;
-    if let Tested::Refused(r) = chosen_tested(head, generations.len(), place, n) {
-        return Chosen::Refused(r);
-    }
+    chosen_tested(*head, generations.len(), place, n)?;
     if head.used <= n {
-        return take_past(
+        take_past(
             head,
             generations,
             archetypes,
@@ -151,10 +170,10 @@ fn alloced_at(
             generation,
             id,
         );
+        return Ok(None);
     }
-    let at = position_of(pending, head.pending, id.0);
-    if at < head.pending {
-        return take_pending(
+    match position_of(&pending[..head.pending], id.0) {
+        Some(at) => take_pending(
             head,
             generations,
             archetypes,
@@ -164,37 +183,44 @@ fn alloced_at(
             generation,
             id,
             at,
-        );
+        ),
+        None => take_over(
+            *head,
+            generations,
+            archetypes,
+            indices,
+            pending,
+            place,
+            generation,
+            id,
+        ),
     }
-    take_over(
-        head,
-        generations,
-        archetypes,
-        indices,
-        pending,
-        place,
-        generation,
-        id,
-    )
 }
 
-// hecs's `alloc_at`, with the place that the number gets.
+// hecs's `alloc_at`, with the place that the number gets. The tables stay slices, as in `alloc`, to which C lends one of them const: a struct of `&mut` would serve two calls alone.
 pub fn alloc_at(
-    head: Head,
+    head: &mut Head,
     generations: &mut [u32],
     archetypes: &mut [u32],
     indices: &mut [u32],
     pending: &mut [u32],
     bits: u64,
     place: Place,
-) -> Chosen
-    ensures { Did (allocating_at (ids_of head generations.old archetypes.old indices.old pending.old) bits place) (ids_of head generations.old archetypes.old indices.old pending.old) (chosen_of result) (ids_of (chosen_head head result) generations.new archetypes.new indices.new pending.new) }
+) -> Result<Option<Place>, Refusal>
+    ensures { let lent = ids_of head.old generations.old archetypes.old indices.old pending.old in
+        let left = ids_of head.new generations.new archetypes.new indices.new pending.new in
+        Did (allocating_at lent bits place) lent (chosen_of result) left }
 {
-    if let Tested::Refused(r) = tested(head, generations, archetypes, indices, pending, false) {
-        return Chosen::Refused(r);
-    }
-    let Bits::Good(handle) = Handle::from_bits(bits) else {
-        return Chosen::Refused(Refusal::ZeroGeneration);
+    let ids = IdTables {
+        head: *head,
+        generations,
+        archetypes,
+        indices,
+        pending,
+    };
+    ids.tested(false)?;
+    let Ok(handle) = Handle::from_bits(bits) else {
+        return Err(Refusal::ZeroGeneration);
     };
     alloced_at(
         head,

@@ -1,9 +1,19 @@
 -- What an answer says of the rules that led to it, and how a call's proof uses the tests that it ran.
 use Prim.{Unit, tt}
-use Rattle.std.specs.Prelude.{ℕ, Bool, true, false, ◌≡◌, refl, List, [], ◌∷◌, ◌++◌}
+use Rattle.std.specs.Prelude.{ℕ, Bool, true, false, ◌≡◌, refl, List, [], ◌∷◌, ◌++◌, Result}
 use Rattle.std.proofs.Common.{arith, sym, ap, ◌∙◌}
-use Rattle.refusal.specs.declared.Tested.{Tested}
-use Rattle.refusal.specs.Table.{Rule, ◌when◌, Answer, granted, refused, ◌or_else◌, ◌otherwise◌, passing, test_of, value_of, left_of, Did}
+use Rattle.std.specs.Result.{IsErrAnd}
+use Rattle.std.proofs.lemmas.Result.{err_from_is_err_and}
+use Rattle.refusal.specs.Number.{number_of}
+use Rattle.refusal.specs.declared.Refusal.{Refusal}
+use Rattle.refusal.specs.Table.{Rule, ◌when◌, Answer, granted, refused, ◌or_else◌, ◌otherwise◌, passing, answer_of, answer_by, value_of, left_of, Did}
+
+-- a refusal that `?` hands up is the one that the call gave
+pub handed_up : {A : Type 0} {a : Answer A} (r : Result A Refusal) (e : Refusal) → IsErrAnd r (λ x. x ≡ e) → refused (number_of e) ≡ a → answer_of r ≡ a
+handed_up r e h k = let p = err_from_is_err_and r h in rw (p.1, p.2) k
+
+pub handed_up_by : {R A : Type 0} {a : Answer A} (values : R → A) (r : Result R Refusal) (e : Refusal) → IsErrAnd r (λ x. x ≡ e) → refused (number_of e) ≡ a → answer_by values r ≡ a
+handed_up_by values r e h k = let p = err_from_is_err_and r h in rw (p.1, p.2) k
 
 pub not_refused : {A : Type 0} {n : ℕ} {v : A} → granted v ≡ refused n → ⊥
 not_refused e = let z : ◌≡◌ {A = ℕ} 0 1 = cc in omega arith
@@ -84,10 +94,6 @@ unfolding ◌or_else◌
 stops [] v b e = absurd (not_refused (sym e))
 stops (k when true ∷ rest) v b e = cc
 stops (k when false ∷ rest) v b e = stops rest v b e
-
--- what the tests said, once the answer has been taken apart
-pub told : {a : Answer (Unit {0})} (r t : Tested) → test_of r ≡ a → r ≡ t → test_of t ≡ a
-told r t e p = sym (ap test_of p) ∙ e
 
 module _ {A S : Type 0} {rule : Answer (A × S)} {lent : S} where
   pub grant : {v : A} {s : S} → rule ≡ granted (v, s) → Did rule lent (granted v) s

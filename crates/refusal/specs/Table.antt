@@ -1,9 +1,8 @@
 -- What a call answers, how its refusals are listed, and what it promises of everything lent to it.
 use Prim.{Unit, tt}
-use Rattle.std.specs.Prelude.{ℕ, Bool, true, false, ◌≡◌, List, [], ◌∷◌}
+use Rattle.std.specs.Prelude.{ℕ, Bool, true, false, ◌≡◌, List, [], ◌∷◌, Result, Ok, Err}
 use Rattle.refusal.specs.Number.{number_of}
-use Rattle.refusal.specs.declared.Tested.{Tested}
-use Rattle.refusal.specs.declared.Tested.TheVariants.{Passed, Refused}
+use Rattle.refusal.specs.declared.Refusal.{Refusal}
 
 infix 68 ◌when◌
 infixr 20 ◌otherwise◌ ◌or_else◌
@@ -30,10 +29,15 @@ rules otherwise v = rules or_else granted v
 abbrev pub passing : List Rule → Answer (Unit {0})
 passing rules = rules otherwise tt
 
--- the document's number of each case
-abbrev pub test_of : Tested → Answer (Unit {0})
-test_of Passed = granted tt
-test_of (Refused r) = refused (number_of r)
+-- the document's number and values of what a call returns: here the values are what is returned
+abbrev pub answer_of : {A : Type 0} → Result A Refusal → Answer A
+answer_of (Ok v) = granted v
+answer_of (Err r) = refused (number_of r)
+
+-- and here they are made of it
+abbrev pub answer_by : {R A : Type 0} → (R → A) → Result R Refusal → Answer A
+answer_by values (Ok v) = granted (values v)
+answer_by values (Err r) = refused (number_of r)
 
 -- A call that changes what it is lent: its rule grants a value and what is left, or refuses.
 abbrev pub value_of : {A S : Type 0} → Answer (A × S) → Answer A

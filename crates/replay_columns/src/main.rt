@@ -4,86 +4,39 @@
 mod calls;
 mod tables;
 
-use replay_line::{least, line, next, number};
+use replay_line::{digest_bytes, least, line, next, number, part, table};
 use std::io;
 use tables::Tables;
 
 const TABLES: u64 = 1;
 
-// A call on as much of the tables as it is lent.
-fn call(
-    rt: &impl Print,
-    line: &[u64],
-    rows: &[u32],
-    widths: &[u32],
-    types: &[u32],
-    sizes: &[u32],
-    numbers: &mut [u32],
-    counts: &mut [u32],
-    bytes: &mut [u8],
-    values: &mut [u8],
-) -> io::Result<()> {
-    let mut out = [0u64; 4];
-    let code = calls::answer(
-        line, rows, widths, types, sizes, numbers, counts, bytes, values, &mut out,
-    );
-    let declared = tables::declared(rows, widths, types, sizes);
-    let left = tables::digest(declared, numbers, counts, bytes, values);
-    replay_line::say(rt, code, &out, left)
-}
-
 // The line tells the length of the row counts and of the bytes.
-fn play(rt: &impl Print, tables: Tables, line: &[u64]) -> io::Result<Tables> {
-    let rows = tables.rows;
-    let widths = tables.widths;
-    let types = tables.types;
-    let sizes = tables.sizes;
-    let mut numbers = tables.numbers;
-    let counts = tables.counts;
-    let mut counts = tables::all_counts(counts);
-    let bytes = tables.bytes;
-    let mut bytes = tables::all_bytes(bytes);
-    let mut values = tables::values(line);
+fn play(rt: &impl Print, tables: &mut Tables, line: &[u64]) -> io::Result<()> {
+    let mut out = [0u64; 4];
+    let mut values: [u8; 80] = table(line, 6);
+    let values = &mut values[..part(line, 6, 80).len().min(80)];
     let c = least(number(line, 4), 6);
     let b = least(number(line, 5), 64);
-    let v = tables::count(line);
-    call(
-        rt,
-        line,
-        &rows,
-        &widths,
-        &types,
-        &sizes,
-        &mut numbers,
-        &mut counts[0..c],
-        &mut bytes[0..b],
-        &mut values[0..v],
-    )?;
-    Ok(Tables {
-        rows: rows,
-        widths: widths,
-        types: types,
-        sizes: sizes,
-        numbers: numbers,
-        counts: counts,
-        bytes: bytes,
-    })
+    let code = calls::answer(tables, c, b, line, values, &mut out);
+    let left = tables.digest(&tables.counts[..c], &tables.bytes[..b]);
+    replay_line::say(rt, code, &out, digest_bytes(left, values))
 }
 
-fn turn(rt: &impl Print, tables: Tables, line: &[u64]) -> io::Result<Tables> {
+fn turn(rt: &impl Print, tables: &mut Tables, line: &[u64]) -> io::Result<()> {
     if number(line, 0) == TABLES {
-        Ok(tables::told(line))
-    } else {
-        play(rt, tables, line)
+        *tables = Tables::told(line);
+        return Ok(());
     }
+    play(rt, tables, line)
 }
 
-// The list begins with the number of its lines.
+// The list begins with the number of its lines; the tables are zeros at first.
+// Each program has these few lines of its own: an iterator over lines, with its laws, would be longer than all of them.
 fn walk(rt: &impl Print, list: &[u64]) -> io::Result<()> {
-    let mut tables = tables::empty();
+    let mut tables = Tables::told(&[]);
     let mut at = 1;
     for _ in 0..number(list, 0) {
-        tables = turn(rt, tables, line(list, at))?;
+        turn(rt, &mut tables, line(list, at))?;
         at = next(list, at);
     }
     Ok(())

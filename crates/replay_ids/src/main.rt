@@ -2,124 +2,48 @@
 #![tactic(auto)]
 
 mod batches;
-mod lookups;
 mod numbers;
 mod tables;
 mod words;
 
-use replay_line::{least, line, next, number};
+use replay_line::{digest_words, least, line, next, number, part, table};
 use std::io;
 use tables::Tables;
 
 const TABLES: u64 = 1;
 
-// The calls on handles and words come first, then those on one number, lookups and those on n numbers.
-fn answer(
-    line: &[u64],
-    head: &mut [u64; 4],
-    generations: &mut [u32],
-    archetypes: &mut [u32],
-    indices: &mut [u32],
-    pending: &mut [u32],
-    values: &mut [u64],
-    out: &mut [u64; 4],
-) -> u32 {
-    let call = number(line, 0);
-    if call < 12 {
-        return words::answer(line, values, out);
-    }
-    if call < 17 {
-        return numbers::answer(line, head, generations, archetypes, indices, pending, out);
-    }
-    if call < 22 {
-        return lookups::answer(line, head, generations, archetypes, indices, pending, out);
-    }
-    batches::answer(
-        line,
-        head,
-        generations,
-        archetypes,
-        indices,
-        pending,
-        values,
-        out,
-    )
-}
-
-// A call on as much of the tables as it is lent.
-fn call(
-    rt: &impl Print,
-    line: &[u64],
-    head: &mut [u64; 4],
-    generations: &mut [u32],
-    archetypes: &mut [u32],
-    indices: &mut [u32],
-    pending: &mut [u32],
-    values: &mut [u64],
-) -> io::Result<()> {
+// The line tells the length of the first three tables and of the pending list. The calls go by the numbers that the
+// list, the program's input, has for them: those on handles and words, on one number, on n numbers.
+fn play(rt: &impl Print, tables: &mut Tables, line: &[u64]) -> io::Result<()> {
     let mut out = [0u64; 4];
-    let code = answer(
-        line,
-        head,
-        generations,
-        archetypes,
-        indices,
-        pending,
-        values,
-        &mut out,
-    );
-    let left = tables::digest(head, generations, archetypes, indices, pending, values);
+    let mut values: [u64; 80] = table(line, 6);
+    let values = &mut values[..part(line, 6, 80).len().min(80)];
+    let n = least(number(line, 4), 4097);
+    let p = least(number(line, 5), 4097);
+    let code = match number(line, 0) {
+        0..=11 => words::answer(line, values, &mut out),
+        12..=21 => numbers::answer(tables, n, p, line, &mut out),
+        _ => batches::answer(tables, n, p, line, values, &mut out),
+    };
+    let left = digest_words(tables.digest(n, p), values);
     replay_line::say(rt, code, &out, left)
 }
 
-// The line tells the length of the first three tables and of the pending list.
-fn play(rt: &impl Print, tables: Tables, line: &[u64]) -> io::Result<Tables> {
-    let mut head = tables.head;
-    let generations = tables.generations;
-    let mut generations = tables::whole(generations);
-    let archetypes = tables.archetypes;
-    let mut archetypes = tables::whole(archetypes);
-    let indices = tables.indices;
-    let mut indices = tables::whole(indices);
-    let pending = tables.pending;
-    let mut pending = tables::whole(pending);
-    let mut values = tables::values(line);
-    let n = least(number(line, 4), 4097);
-    let p = least(number(line, 5), 4097);
-    let v = tables::count(line);
-    call(
-        rt,
-        line,
-        &mut head,
-        &mut generations[0..n],
-        &mut archetypes[0..n],
-        &mut indices[0..n],
-        &mut pending[0..p],
-        &mut values[0..v],
-    )?;
-    Ok(Tables {
-        head: head,
-        generations: generations,
-        archetypes: archetypes,
-        indices: indices,
-        pending: pending,
-    })
-}
-
-fn turn(rt: &impl Print, tables: Tables, line: &[u64]) -> io::Result<Tables> {
+fn turn(rt: &impl Print, tables: &mut Tables, line: &[u64]) -> io::Result<()> {
     if number(line, 0) == TABLES {
-        Ok(tables::told(line))
-    } else {
-        play(rt, tables, line)
+        tables.tell(line);
+        return Ok(());
     }
+    play(rt, tables, line)
 }
 
 // The list begins with the number of its lines.
+// Each program has these few lines of its own: an iterator over lines, with its laws, would be longer than all of them.
 fn walk(rt: &impl Print, list: &[u64]) -> io::Result<()> {
-    let mut tables = tables::empty();
+    let mut tables = Tables::empty();
     let mut at = 1;
     for _ in 0..number(list, 0) {
-        tables = turn(rt, tables, line(list, at))?;
+        turn(rt, &mut tables, line(list, at))?;
         at = next(list, at);
     }
     Ok(())

@@ -6,47 +6,29 @@ use exports_ids::{
 };
 use replay_line::{low, number};
 
-fn in_place(call: u64, word: &mut u64) -> u32 {
-    if call == 2 {
-        return verdict_word_shared(word);
-    }
-    if call == 3 {
-        return verdict_word_unique(word);
-    }
-    if call == 4 {
-        return verdict_word_release(word);
-    }
-    verdict_word_unique_release(word)
-}
-
-fn in_a_table(call: u64, words: &mut [u64], at: usize, out: &mut [u64; 4]) -> u32 {
-    if call == 6 {
-        return verdict_word_shared_at(words, at, out);
-    }
-    if call == 7 {
-        return verdict_word_unique_at(words, at, out);
-    }
-    if call == 8 {
-        return verdict_word_release_at(words, at, out);
-    }
-    verdict_word_unique_release_at(words, at, out)
-}
-
 // A word in place is answered as it is left.
+fn in_place(call: u64, word: u64, out: &mut [u64; 4]) -> u32 {
+    let mut left = word;
+    let code = match call {
+        2 => verdict_word_shared(&mut left),
+        3 => verdict_word_unique(&mut left),
+        4 => verdict_word_release(&mut left),
+        _ => verdict_word_unique_release(&mut left),
+    };
+    *out = [left, 0, 0, 0];
+    code
+}
+
 pub(crate) fn answer(line: &[u64], words: &mut [u64], out: &mut [u64; 4]) -> u32 {
     let call = number(line, 0);
     let a = number(line, 1);
-    if call < 6 {
-        let mut word = a;
-        let code = in_place(call, &mut word);
-        *out = [word, 0, 0, 0];
-        return code;
+    match call {
+        0..=5 => in_place(call, a, out),
+        6 => verdict_word_shared_at(words, a as usize, out),
+        7 => verdict_word_unique_at(words, a as usize, out),
+        8 => verdict_word_release_at(words, a as usize, out),
+        9 => verdict_word_unique_release_at(words, a as usize, out),
+        10 => verdict_handle_from_bits(a, out),
+        _ => verdict_handle_new(low(a), low(number(line, 2)), out),
     }
-    if call < 10 {
-        return in_a_table(call, words, a as usize, out);
-    }
-    if call == 10 {
-        return verdict_handle_from_bits(a, out);
-    }
-    verdict_handle_new(low(a), low(number(line, 2)), out)
 }

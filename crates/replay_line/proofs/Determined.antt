@@ -1,11 +1,9 @@
 -- The contracts determine the result and what is left: no second result fits. One instance a function, under its name.
 -- Assumes nothing.
-use Rattle.std.proofs.Common.{ℕ, ◌%◌, ◌^◌, min, ◌≡◌, sym, ◌∙◌, List, get_or, take, drop}
-use Rattle.replay_line.specs.Through.{through}
+use Rattle.std.proofs.Common.{ℕ, ◌%◌, ◌^◌, min, ◌≡◌, sym, ◌∙◌, List, get_or, take, drop, fold, replicate}
 use Rattle.replay_line.specs.Text.{read_from}
 use Rattle.replay_line.specs.Lines.{line_at, next_at}
-use Rattle.replay_line.specs.Tables.{words, filled, mixed, mixed_word, mixed_low}
-use Rattle.replay_line.specs.Tables.{numbers as kept_numbers, bytes as kept_bytes}
+use Rattle.replay_line.specs.Tables.{filled, mixed, mixed_word, mixed_low}
 
 -- one value meets an equation with a rule
 abbrev One : {A : Type 0} → A → Type 0
@@ -32,31 +30,22 @@ line list at = one _
 pub next : (list : List ℕ) (at : ℕ) → One (next_at list at)
 next list at = one _
 
-pub fill_words : (table values : List ℕ) → One (filled words table values)
-fill_words table values = one _
+pub fill : {V T : Type 0} (keeps : V → T) (table : List T) (values : List V) → One (filled keeps table values)
+fill keeps table values = one _
 
-pub fill_numbers : (table values : List ℕ) → One (filled kept_numbers table values)
-fill_numbers table values = one _
+pub table : {T : Type 0} (keeps : ℕ → T) (n : ℕ) (list : List ℕ) (at : ℕ) → One (filled keeps (replicate n (keeps 0)) (take n (drop at list)))
+table keeps n list at = one _
 
-pub fill_bytes : (table values : List ℕ) → One (filled kept_bytes table values)
-fill_bytes table values = one _
-
-pub widen_numbers : (table values : List ℕ) → One (filled words table values)
-widen_numbers table values = one _
-
-pub widen_bytes : (table values : List ℕ) → One (filled words table values)
-widen_bytes table values = one _
-
-pub digest_words : (digest : ℕ) (table : List ℕ) → One (through mixed_word digest table)
+pub digest_words : (digest : ℕ) (table : List ℕ) → One (fold mixed_word digest table)
 digest_words digest table = one _
 
-pub digest_low : (digest : ℕ) (table : List ℕ) → One (through mixed_low digest table)
+pub digest_low : (digest : ℕ) (table : List ℕ) → One (fold mixed_low digest table)
 digest_low digest table = one _
 
-pub digest_numbers : (digest : ℕ) (table : List ℕ) → One (through mixed digest table)
+pub digest_numbers : (digest : ℕ) (table : List ℕ) → One (fold mixed digest table)
 digest_numbers digest table = one _
 
-pub digest_bytes : (digest : ℕ) (table : List ℕ) → One (through mixed digest table)
+pub digest_bytes : (digest : ℕ) (table : List ℕ) → One (fold mixed digest table)
 digest_bytes digest table = one _
 
 pub numbers : (text out : List ℕ) (r s : ℕ) (left left' : List ℕ) → (r ≡ (read_from text out).count) × (left ≡ (read_from text out).table)

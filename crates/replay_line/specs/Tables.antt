@@ -1,6 +1,5 @@
 -- A table that is filled from numbers, and the digest of a table.
-use Rattle.std.specs.Prelude.{ℕ, ◌+◌, ◌*◌, ◌/◌, ◌%◌, ◌^◌, List, set}
-use Rattle.replay_line.specs.Through.{through}
+use Rattle.std.specs.Prelude.{ℕ, ◌+◌, ◌*◌, ◌/◌, ◌%◌, ◌^◌, List, set, fold}
 
 -- what a table of words, of 32-bit numbers or of bytes keeps of a value
 abbrev pub words : ℕ → ℕ
@@ -13,11 +12,11 @@ abbrev pub bytes : ℕ → ℕ
 bytes v = v % 2 ^ 8
 
 -- the next place, if there is one, holds the value
-unfoldable pub placed : (ℕ → ℕ) → List ℕ × ℕ → ℕ → List ℕ × ℕ
+unfoldable pub placed : {V T : Type 0} → (V → T) → List T × ℕ → V → List T × ℕ
 placed keeps s v = (set s.0 s.1 (keeps v), s.1 + 1)
 
-unfoldable pub filled : (ℕ → ℕ) → List ℕ → List ℕ → List ℕ
-filled keeps table values = (through (placed keeps) (table, 0) values).0
+unfoldable pub filled : {V T : Type 0} → (V → T) → List T → List V → List T
+filled keeps table values = (fold (placed keeps) (table, 0) values).0
 
 -- the factor and the modulus are primes below 2 ^ 20 and 2 ^ 43, so that 64 bits hold the sum
 unfoldable pub mixed : ℕ → ℕ → ℕ

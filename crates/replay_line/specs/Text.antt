@@ -1,10 +1,14 @@
 -- The numbers of a text: hexadecimal digits, and one other byte after each number.
-use Rattle.std.specs.Prelude.{ℕ, ◌+◌, ◌-◌, ◌*◌, ◌%◌, ◌^◌, cond, List, ltb, length, set}
-use Rattle.replay_line.specs.Through.{through}
+use Rattle.std.specs.Prelude.{ℕ, ◌+◌, ◌-◌, ◌*◌, ◌%◌, ◌^◌, cond, List, ltb, length, set, fold, Option, Some, None}
 
 -- 0 to 9 and a to f; 16 for any other byte
 unfoldable pub digit_of : ℕ → ℕ
 digit_of b = cond (ltb b 48) 16 (cond (ltb b 58) (b - 48) (cond (ltb b 97) 16 (cond (ltb b 103) (b - 87) 16)))
+
+-- what is read of a byte: none is 16
+abbrev pub digit_in : Option ℕ → ℕ
+digit_in (Some d) = d
+digit_in None = 16
 
 -- the last sixteen digits count
 unfoldable pub with_digit : ℕ → ℕ → ℕ
@@ -27,4 +31,4 @@ unfoldable pub read : Reading → ℕ → Reading
 read s b = cond (ltb (digit_of b) 16) (reading s.table s.count (with_digit s.value (digit_of b))) (stored s)
 
 unfoldable pub read_from : List ℕ → List ℕ → Reading
-read_from text table = through read (reading table 0 0) text
+read_from text table = fold read (reading table 0 0) text

@@ -1,6 +1,5 @@
 // A digest of tables, one after the other: a number that tells what they hold in which order.
-ghost use Rattle.std.specs.Prelude.{◌≡◌};
-ghost use Rattle.replay_line.specs.Through.{through};
+ghost use Rattle.std.specs.Prelude.{◌≡◌, fold};
 ghost use Rattle.replay_line.specs.Tables.{mixed, mixed_word, mixed_low};
 
 use crate::lines::low;
@@ -18,63 +17,37 @@ fn mix_word(digest: u64, value: u64) -> u64
     mix(mix(digest, low(value / 4294967296)), low(value))
 }
 
-pub fn digest_words(digest: u64, table: &[u64]) -> u64
-    ensures { result ≡ through mixed_word digest table.now }
-{
-    let mut sum = digest;
-    let mut i = 0;
-    while i < table.len() {
-        sum = mix_word(sum, table[i]);
-        i += 1;
-    }
-    sum
-}
-
 fn mix_low(digest: u64, value: u64) -> u64
     ensures { result ≡ mixed_low digest value }
 {
     mix(digest, low(value))
 }
 
+pub fn digest_words(digest: u64, table: &[u64]) -> u64
+    ensures { result ≡ fold mixed_word digest table.now }
+{
+    table
+        .iter()
+        .fold(digest, |sum, value| mix_word(sum, *value))
+}
+
 // The low half of each word.
 pub fn digest_low(digest: u64, table: &[u64]) -> u64
-    ensures { result ≡ through mixed_low digest table.now }
+    ensures { result ≡ fold mixed_low digest table.now }
 {
-    let mut sum = digest;
-    let mut i = 0;
-    while i < table.len() {
-        sum = mix_low(sum, table[i]);
-        i += 1;
-    }
-    sum
+    table.iter().fold(digest, |sum, value| mix_low(sum, *value))
 }
 
 pub fn digest_numbers(digest: u64, table: &[u32]) -> u64
-    ensures { result ≡ through mixed digest table.now }
+    ensures { result ≡ fold mixed digest table.now }
 {
-    let mut sum = digest;
-    let mut i = 0;
-    while i < table.len() {
-        sum = mix(sum, table[i]);
-        i += 1;
-    }
-    sum
+    table.iter().fold(digest, |sum, value| mix(sum, *value))
 }
 
 pub fn digest_bytes(digest: u64, table: &[u8]) -> u64
-    ensures { result ≡ through mixed digest table.now }
+    ensures { result ≡ fold mixed digest table.now }
 {
-    let mut sum = digest;
-    let mut i = 0;
-    while i < table.len() {
-        sum = mix(sum, wide(table[i]));
-        i += 1;
-    }
-    sum
-}
-
-fn wide(byte: u8) -> u32
-    ensures { result ≡ byte }
-{
-    byte as u32
+    table
+        .iter()
+        .fold(digest, |sum, value| mix(sum, u32::from(*value)))
 }

@@ -1,95 +1,85 @@
 // Tables filled from a list of numbers, as far as both go.
-ghost use Rattle.std.specs.Prelude.{◌≡◌, ◌%◌, ◌^◌, set};
-ghost use Rattle.replay_line.specs.Tables.{filled, words, numbers, bytes};
+ghost use Rattle.std.specs.Prelude.{◌≡◌, drop, replicate, take};
+ghost use Rattle.replay_line.specs.Tables.{filled};
 
-use crate::lines::low;
+use crate::lines::{low, part};
 
-fn put_word(table: &mut [u64], at: usize, value: u64)
-    ensures { table.new ≡ set table.old at value }
-{
-    if at < table.len() {
-        table[at] = value;
+// What a table of this type keeps of a value.
+pub trait Keeps<V> {
+    ghost keeps: { V → Self };
+
+    fn keep(value: V) -> Self
+        ensures { result ≡ keeps value };
+}
+
+impl Keeps<u64> for u64 {
+    ghost use Rattle.replay_line.specs.Tables.{words};
+
+    ghost keeps = { words };
+
+    fn keep(value: u64) -> u64 {
+        value
     }
 }
 
-fn put_number(table: &mut [u32], at: usize, value: u64)
-    ensures { table.new ≡ set table.old at (value % 2 ^ 32) }
-{
-    if at < table.len() {
-        table[at] = low(value);
+// The low half.
+impl Keeps<u64> for u32 {
+    ghost use Rattle.replay_line.specs.Tables.{numbers};
+
+    ghost keeps = { numbers };
+
+    fn keep(value: u64) -> u32 {
+        low(value)
     }
 }
 
-fn put_byte(table: &mut [u8], at: usize, value: u64)
-    ensures { table.new ≡ set table.old at (value % 2 ^ 8) }
-{
-    if at < table.len() {
-        table[at] = (value % 256) as u8;
+// The low byte.
+impl Keeps<u64> for u8 {
+    ghost use Rattle.replay_line.specs.Tables.{bytes};
+
+    ghost keeps = { bytes };
+
+    fn keep(value: u64) -> u8 {
+        (value % 256) as u8
     }
 }
 
-pub fn fill_words(table: &mut [u64], values: &[u64])
-    ensures { table.new ≡ filled words table.old values.now }
-{
-    let mut i = 0;
-    while i < values.len() {
-        put_word(table, i, values[i]);
-        i += 1;
+impl Keeps<u32> for u64 {
+    ghost use Rattle.replay_line.specs.Tables.{words};
+
+    ghost keeps = { words };
+
+    fn keep(value: u32) -> u64 {
+        value as u64
     }
 }
 
-// The low half of each value.
-pub fn fill_numbers(table: &mut [u32], values: &[u64])
-    ensures { table.new ≡ filled numbers table.old values.now }
-{
-    let mut i = 0;
-    while i < values.len() {
-        put_number(table, i, values[i]);
-        i += 1;
+impl Keeps<u8> for u64 {
+    ghost use Rattle.replay_line.specs.Tables.{words};
+
+    ghost keeps = { words };
+
+    fn keep(value: u8) -> u64 {
+        value as u64
     }
 }
 
-// The low byte of each value.
-pub fn fill_bytes(table: &mut [u8], values: &[u64])
-    ensures { table.new ≡ filled bytes table.old values.now }
+// Each value goes to the table's next place.
+pub fn fill<V: Copy, T: Copy + Keeps<V>>(table: &mut [T], values: &[V])
+    ensures { table.new ≡ filled T.keeps table.old values.now }
 {
-    let mut i = 0;
-    while i < values.len() {
-        put_byte(table, i, values[i]);
-        i += 1;
+    for (i, value) in values.iter().enumerate() {
+        if i < table.len() {
+            table[i] = T::keep(*value);
+        }
     }
 }
 
-fn wide_number(number: u32) -> u64
-    ensures { result ≡ number }
+// So many numbers of a list from a position on as a table; zeros past the list's end.
+pub fn table<T: Copy + Keeps<u64>, const N: usize>(list: &[u64], at: usize) -> [T; N]
+    ensures { result ≡ filled T.keeps (replicate N (T.keeps 0)) (take N (drop at list.now)) }
 {
-    number as u64
-}
-
-fn wide_byte(byte: u8) -> u64
-    ensures { result ≡ byte }
-{
-    byte as u64
-}
-
-// Each number as a word.
-pub fn widen_numbers(table: &mut [u64], values: &[u32])
-    ensures { table.new ≡ filled words table.old values.now }
-{
-    let mut i = 0;
-    while i < values.len() {
-        put_word(table, i, wide_number(values[i]));
-        i += 1;
-    }
-}
-
-// Each byte as a word.
-pub fn widen_bytes(table: &mut [u64], values: &[u8])
-    ensures { table.new ≡ filled words table.old values.now }
-{
-    let mut i = 0;
-    while i < values.len() {
-        put_word(table, i, wide_byte(values[i]));
-        i += 1;
-    }
+    let mut table = [T::keep(0); N];
+    fill(&mut table, part(list, at, N));
+    table
 }

@@ -9,7 +9,7 @@ mod said;
 mod text;
 
 pub use digests::{digest_bytes, digest_low, digest_numbers, digest_words};
-pub use fills::{fill_bytes, fill_numbers, fill_words, widen_bytes, widen_numbers};
+pub use fills::{Keeps, fill, table};
 pub use input::read_full;
 pub use lines::{least, line, low, next, number, part};
 pub use said::say;

@@ -13,10 +13,7 @@ pub fn low(number: u64) -> u32
 pub fn number(list: &[u64], at: usize) -> u64
     ensures { result ≡ get_or list.now at 0 }
 {
-    if at < list.len() {
-        return list[at];
-    }
-    0
+    list.get(at).copied().unwrap_or(0)
 }
 
 // A length that a list tells, where there is as much.
@@ -24,24 +21,15 @@ pub fn least(told: u64, length: usize) -> usize
     ensures upper_bound { result ≤ length }
     ensures value { result ≡ min told length }
 {
-    if told < length as u64 {
-        return told as usize;
-    }
-    length
+    length.min(told as usize)
 }
 
 // So many numbers from a position on, or as many as there are.
 pub fn part(list: &[u64], at: usize, count: usize) -> &[u64]
     ensures { result.now ≡ take count (drop at list.now) }
 {
-    if list.len() <= at {
-        return &list[0..0];
-    }
-    let left = list.len() - at;
-    if left <= count {
-        return &list[at..];
-    }
-    &list[at..at + count]
+    let rest = &list[at.min(list.len())..];
+    &rest[..count.min(rest.len())]
 }
 
 // The line at a position.

@@ -1,6 +1,6 @@
 // The numbers of a text, in hexadecimal, each with one byte after it that is no digit.
-ghost use Rattle.std.specs.Prelude.{◌≡◌, ◌<◌};
-ghost use Rattle.replay_line.specs.Text.{digit_of, with_digit, Reading, reading, read, read_from};
+ghost use Rattle.std.specs.Prelude.{◌≡◌, ◌<◌, IfSome};
+ghost use Rattle.replay_line.specs.Text.{digit_in, digit_of, with_digit, Reading, reading, read, read_from};
 
 // How many numbers are told, and the value of the digits since then.
 #[derive(Clone, Copy)]
@@ -9,23 +9,16 @@ struct Told {
     value: u64,
 }
 
-// 16 for a byte that is no digit.
-fn digit(byte: u8) -> u8
-    ensures { result ≡ digit_of byte }
+// A byte may be no digit.
+fn digit(byte: u8) -> Option<u8>
+    ensures value { digit_in result ≡ digit_of byte }
+    ensures small { IfSome result (λ d. d < 16) }
 {
-    if byte < 48 {
-        return 16;
+    match byte {
+        b'0'..=b'9' => Some(byte - 48),
+        b'a'..=b'f' => Some(byte - 87),
+        _ => None,
     }
-    if byte < 58 {
-        return byte - 48;
-    }
-    if byte < 97 {
-        return 16;
-    }
-    if byte < 103 {
-        return byte - 87;
-    }
-    16
 }
 
 fn with_digit(value: u64, digit: u8) -> u64
@@ -39,14 +32,13 @@ fn with_digit(value: u64, digit: u8) -> u64
 fn step(out: &mut [u64], told: Told, byte: u8) -> Told
     ensures { reading out.new result.count result.value ≡ read (reading out.old told.count told.value) byte }
 {
-    let digit = digit(byte);
-    if digit < 16 {
+    let count = told.count;
+    if let Some(digit) = digit(byte) {
         return Told {
-            count: told.count,
+            count,
             value: with_digit(told.value, digit),
         };
     }
-    let count = told.count;
     if count < out.len() {
         out[count] = told.value;
         return Told {
@@ -54,10 +46,7 @@ fn step(out: &mut [u64], told: Told, byte: u8) -> Told
             value: 0,
         };
     }
-    Told {
-        count: count,
-        value: 0,
-    }
+    Told { count, value: 0 }
 }
 
 // The text's numbers go to the output's front, as many as there are places; answers how many.
@@ -65,10 +54,8 @@ pub fn numbers(text: &[u8], out: &mut [u64]) -> usize
     ensures { (result ≡ (read_from text.now out.old).count) × (out.new ≡ (read_from text.now out.old).table) }
 {
     let mut told = Told { count: 0, value: 0 };
-    let mut i = 0;
-    while i < text.len() {
-        told = step(out, told, text[i]);
-        i += 1;
+    for byte in text {
+        told = step(out, told, *byte);
     }
     told.count
 }

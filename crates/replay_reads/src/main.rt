@@ -1,26 +1,24 @@
 // Plays the fixed list of the store's calls that leave every row as it is, and prints of each call the refusal's number, what it answers, and a digest of what it leaves.
 #![tactic(auto)]
 
-mod holds;
-mod lookups;
-mod reserves;
-mod tables;
+mod play;
 
-use replay_line::{fill_words, line, next, number, part};
+use replay_line::{fill, line, next, number, part};
 use replay_store_line::ALL;
 use std::io;
 
 const TABLES: u64 = 1;
 
-fn turn(rt: &impl Print, tables: &mut [u64], line: &[u64]) -> io::Result<()> {
+fn turn(rt: &impl Print, list: &mut [u64], line: &[u64]) -> io::Result<()> {
     if number(line, 0) == TABLES {
-        fill_words(tables, part(line, 1, ALL));
+        fill(list, part(line, 1, ALL));
         return Ok(());
     }
-    tables::play(rt, tables, line)
+    play::play(rt, list, line)
 }
 
 // The list begins with the number of its lines.
+// Each program has these few lines of its own: an iterator over lines, with its laws, would be longer than all of them.
 fn walk(rt: &impl Print, list: &[u64], tables: &mut [u64]) -> io::Result<()> {
     let mut at = 1;
     for _ in 0..number(list, 0) {

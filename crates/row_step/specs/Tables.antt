@@ -1,12 +1,13 @@
 -- Row numbers, row counts and bytes, in archetype order, and what a row that is appended or removed leaves of them.
-use Rattle.std.specs.Prelude.{ℕ, ◌+◌, ◌-◌, cond, List, eqb, ltb, get_or, set}
+use Rattle.std.specs.Prelude as prelude
+use Rattle.std.specs.Prelude.{ℕ, ◌+◌, ◌-◌, cond, List, Some, None, eqb, ltb, get_or, set}
 use Rattle.std.proofs.Math.Option.{Option, none, some}
 use Rattle.cells.specs.Cell.{cell}
 use Rattle.cells.specs.Line.{line_of, cell_at, carried}
 use Rattle.cells.specs.declared.Line.{Line}
+use Rattle.handle.specs.declared.Number.{Number}
 use Rattle.row_step.specs.declared.Block.{Block}
-use Rattle.row_step.specs.declared.Moved.{Moved}
-use Rattle.row_step.specs.declared.Moved.TheVariants.{Into, Nothing}
+use Rattle.row_step.specs.declared.RowTables.{RowTables}
 
 pub record Rows : Type 0 where
   pub numbers : List ℕ
@@ -15,6 +16,10 @@ pub record Rows : Type 0 where
 
 abbrev pub tables_of : List ℕ → List ℕ → List ℕ → Rows
 tables_of numbers counts bytes = record { numbers = numbers; counts = counts; bytes = bytes }
+
+-- the tables of a view
+abbrev pub rows_in : RowTables → Rows
+rows_in t = tables_of t.numbers.now t.counts.now t.bytes.now
 
 -- the rows of archetype a that are used, and the last of them
 abbrev pub count_of : Rows → ℕ → ℕ
@@ -51,10 +56,10 @@ removed k sizes w a r =
 unfoldable pub moved_by : Block → Rows → ℕ → ℕ → Option ℕ
 moved_by k w a r = cond (eqb r (last_of w a)) none (some (number_in k w (last_of w a)))
 
--- the document's value of each case
-abbrev pub moved_of : Moved → Option ℕ
-moved_of (Into n) = some n.0
-moved_of Nothing = none
+-- the number that a removal says it moved
+abbrev pub moved_of : prelude.Option Number → Option ℕ
+moved_of (Some n) = some n.0
+moved_of None = none
 
 -- where there is no such row nothing is moved and nothing changes
 unfoldable pub row_removed : Block → List ℕ → Rows → ℕ → ℕ → Option ℕ × Rows

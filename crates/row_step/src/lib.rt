@@ -2,7 +2,7 @@
 #![tactic(auto)]
 
 ghost use Rattle.std.specs.Prelude.{◌≡◌, ◌+◌, get_or, set};
-ghost use Rattle.row_step.specs.Tables.{tables_of, moved_of, row_removed};
+ghost use Rattle.row_step.specs.Tables.{tables_of, line_in, moved_of, row_removed};
 
 use cells::Line;
 use handle::{Number, Row};
@@ -15,42 +15,48 @@ pub struct Block {
     pub base: usize,
 }
 
-// The number that a removal moved into the row.
+impl Block {
+    // A row of it across its columns.
+    pub fn line(self, row: Row) -> Line
+        ensures { result ≡ line_in self row.0 }
+    {
+        Line {
+            start: self.base,
+            rows: self.rows,
+            row: row.0,
+        }
+    }
+}
+
+// The tables of rows, lent to be read: a number a row and a count an archetype, in archetype order, and the bytes of all
+// columns.
 #[derive(Clone, Copy)]
-pub enum Moved {
-    Into(Number),
-    Nothing,
+pub struct RowTables<'a> {
+    pub numbers: &'a [u32],
+    pub counts: &'a [u32],
+    pub bytes: &'a [u8],
 }
 
 // The number in a row, or 0 where the table has none.
 pub fn number_at(numbers: &[u32], first: usize, row: Row) -> Number
     ensures { result.0 ≡ get_or numbers.now (first + row.0) 0 }
 {
-    let i = row.0 as usize;
-    if numbers.len() <= first {
-        return Number(0);
-    }
-    if numbers.len() - first <= i {
-        return Number(0);
-    }
-    Number(numbers[first + i])
+    let place = first.saturating_add(row.0 as usize);
+    Number(numbers.get(place).copied().unwrap_or(0))
 }
 
 // A number stored in a row, where the table has one.
 pub fn set_number(numbers: &mut [u32], first: usize, row: Row, number: Number)
     ensures { numbers.new ≡ set numbers.old (first + row.0) number.0 }
 {
-    let i = row.0 as usize;
-    if numbers.len() <= first {
-        return;
+    let place = first.saturating_add(row.0 as usize);
+    if place < numbers.len() {
+        numbers[place] = number.0;
     }
-    if numbers.len() - first <= i {
-        return;
-    }
-    numbers[first + i] = number.0;
 }
 
-// The last row's number and cells, of columns of these sizes, copied over a row.
+// The last row's number and cells, of columns of these sizes, copied over a row. Answers the number that was moved.
+// The tables are slices side by side, as the C interface lends them to the calls above.
 pub fn remove(
     numbers: &mut [u32],
     counts: &mut [u32],
@@ -59,32 +65,22 @@ pub fn remove(
     sizes: &[u32],
     archetype: usize,
     row: Row,
-) -> Moved
-    ensures { (moved_of result, tables_of numbers.new counts.new bytes.new) ≡ row_removed block sizes.now (tables_of numbers.old counts.old bytes.old) archetype row.0 }
+) -> Option<Number>
+    ensures { let lent = tables_of numbers.old counts.old bytes.old in
+        let left = tables_of numbers.new counts.new bytes.new in
+        (moved_of result, left) ≡ row_removed block sizes.now lent archetype row.0 }
 {
-    if counts.len() <= archetype {
-        return Moved::Nothing;
+    let count = counts.get(archetype).copied().unwrap_or(0);
+    if count <= row.0 {
+        return None;
     }
-    if counts[archetype] <= row.0 {
-        return Moved::Nothing;
+    let last = Row(count - 1);
+    counts[archetype] = last.0;
+    if row == last {
+        return None;
     }
-    let last = counts[archetype] - 1;
-    counts[archetype] = last;
-    if row.0 == last {
-        return Moved::Nothing;
-    }
-    let number = number_at(numbers, block.first, Row(last));
+    let number = number_at(numbers, block.first, last);
     set_number(numbers, block.first, row, number);
-    let from = Line {
-        start: block.base,
-        rows: block.rows,
-        row: last,
-    };
-    let to = Line {
-        start: block.base,
-        rows: block.rows,
-        row: row.0,
-    };
-    cells::carry(bytes, from, to, sizes);
-    Moved::Into(number)
+    cells::carry(bytes, block.line(last), block.line(row), sizes);
+    Some(number)
 }

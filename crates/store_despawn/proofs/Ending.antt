@@ -5,27 +5,22 @@ use Prim.Native.Nat.{ℕ}
 use mathlib.Core.Path.{◌≡◌, refl, sym, ap, ◌∙◌}
 use mathlib.Core.Bool.{false}
 use mathlib.Core.List.{List}
+use Rattle.std.specs.Prelude.{Result, Ok, Err}
+use Rattle.std.specs.Result.{IsErrAnd}
+use Rattle.std.proofs.lemmas.Result.{err_from_is_err_and}
 use Rattle.refusal.specs.Number.{number_of}
-use Rattle.refusal.specs.Table.{Answer, granted, refused, left_of, Did, value_of, passing}
-use Rattle.refusal.specs.Laws.{stops, via}
+use Rattle.refusal.specs.Table.{Answer, granted, refused, left_of, Did, answer_of, passing}
+use Rattle.refusal.specs.Laws.{stops, via, did_refused, not_refused}
 use Rattle.refusal.specs.declared.Refusal.TheVariants.{ZeroGeneration}
 use Rattle.refusal.specs.declared.Refusal.{Refusal}
-use Rattle.handle.specs.Bits.{generation_in, number_in, answer_of, from_bits}
+use Rattle.handle.specs.Bits.{generation_in, number_in, handle_of, from_bits}
 use Rattle.handle.specs.OnBits.{on_first, on_zero, on_good}
 use Rattle.handle.specs.RoundTrip.{from_bits_nonzero, good}
 use Rattle.handle.specs.declared.Handle.{Handle}
-use Rattle.handle.specs.declared.Bits.{Bits}
-use Rattle.handle.specs.declared.Bits.TheVariants.{Good}
-use Rattle.handle.specs.declared.Bits.TheVariants as bad
 use Rattle.handle.specs.declared.Place.{Place}
-use Rattle.id_tables.specs.Lookup.{done_of, head_after}
 use Rattle.id_tables.specs.declared.head.Head.{Head}
 use Rattle.id_tables.specs.Ids.{Ids, ids_of, place_at}
 use Rattle.id_tables.proofs.Meaning.{ok_passes}
-use Rattle.id_tables.specs.declared.lookup.Done.{Done}
-use Rattle.ids.specs.declared.Freed.{Freed}
-use Rattle.ids.specs.declared.Freed.TheVariants.{From, Refused}
-use Rattle.ids.specs.Answers.{freed_of, freed_head}
 use Rattle.ids.specs.Free.{freed_ids, freeing}
 use Rattle.ids.proofs.Passing.{FreeOk}
 use Rattle.ids.proofs.Laws.{freeing_at}
@@ -41,10 +36,8 @@ use Rattle.store_tables.specs.Rows.{archetype_of, row_of, vacated}
 use Rattle.store_tables.specs.Kept.{Entered}
 use Rattle.store_tables.proofs.Places.{owns_means, vacating}
 use Rattle.store_tables.proofs.Vacating.{Vacates, vacates}
-use Rattle.store_despawn.specs.declared.Leaving.{Leaving}
-use Rattle.store_despawn.specs.declared.Leaving.TheVariants as found
 use Rattle.store_despawn.specs.Despawn.{despawn_rules, ended, despawned, despawning}
-use Rattle.store_despawn.specs.Seen.{leaving, leaving_of, Leaves, done_by, Finds}
+use Rattle.store_despawn.specs.Seen.{leaving, Leaves, Finds}
 use Rattle.store_despawn.proofs.Granting.{despawning_at}
 use Rattle.store_despawn.proofs.Laws.{DespawnOk, despawn_ok, leaving_parts}
 
@@ -64,18 +57,9 @@ can_free s g n e k =
     }
 
 -- what the two steps left
-pub left_by : (t : Seats) (head : Head) (generations pending archetypes indices : List ℕ) (bits : ℕ) (said : Freed) (i : Ids) (w : Rows) → seats_of archetypes indices w ≡ t
-    → Did (freeing (ids_of head generations archetypes indices pending) bits) (ids_of head generations archetypes indices pending) (freed_of said) i → Leaves t head generations pending bits said i w
+pub left_by : (t : Seats) (head : Head) (generations pending archetypes indices : List ℕ) (bits : ℕ) (said : Result Place Refusal) (i : Ids) (w : Rows) → seats_of archetypes indices w ≡ t
+    → Did (freeing (ids_of head generations archetypes indices pending) bits) (ids_of head generations archetypes indices pending) (answer_of said) i → Leaves t head generations pending bits said i w
 left_by t head generations pending archetypes indices bits said i w e d = rw (← e) (record { frees = d; rows_are = refl })
-
--- what the id layer's answer says, and the head that it hands back
-said_done : (said : Freed) {o : Place} → freed_of said ≡ granted o → done_of (done_by said) ≡ granted tt
-said_done (From place head) q = refl
-said_done (Refused r) q = cc
-
-said_head : (head : Head) (said : Freed) → head_after head (done_by said) ≡ freed_head head said
-said_head head (From place left) = refl
-said_head head (Refused r) = refl
 
 module _ (s : Store) (h : ℕ) (e : Entered s) (nz : generation_in h ≡ 0 → ⊥) (span : Span) (place : Place)
     (k : granted (span, place) ≡ leaving s (generation_in h) (number_in h)) where
@@ -112,13 +96,14 @@ module _ (s : Store) (h : ℕ) (e : Entered s) (nz : generation_in h ≡ 0 → �
       let f : FreeOk left (generation_in h) n = rw q (can_free s (generation_in h) n e ok) in
       freeing_at left h (record { passes = sym (ok_passes left f.ok); nonzero = nz }) f
 
-  has_ended : (said : Freed) (g x y p : List ℕ) (w : Rows) (r : Done) → Leaves t s.ids.head s.ids.generations s.ids.pending h said (ids_of (freed_head s.ids.head said) g x y p) w
-      → r ≡ done_by said → Did (ended s (generation_in h) n) s (done_of r) (store_of s.decl (ids_of (head_after s.ids.head r) g x y p) w s.words)
-  has_ended said g x y p w r l d =
-      let answers : freed_of said ≡ granted (place_at left n) = l.frees.answer ∙ ap (λ (z : Answer (Place × Ids)). value_of z) freeable in
-      let ids : ids_of (head_after s.ids.head r) g x y p ≡ freed_ids left (generation_in h) n =
-      rw (d, said_head s.ids.head said) (l.frees.leaves ∙ ap (λ (z : Answer (Place × Ids)). left_of z left) freeable) in
-      record { answer = ap done_of d ∙ said_done said answers; leaves = rw (← vacant, ids, l.rows_are) }
+  -- so the id layer does not refuse
+  frees_there : {m : ℕ} {i : Ids} → Did (freeing left h) left (refused m) i → ⊥
+  frees_there d = not_refused (sym freeable ∙ (did_refused (freeing left h) d).0)
+
+  has_ended : {o : Place} {i : Ids} {w : Rows} → Leaves t s.ids.head s.ids.generations s.ids.pending h (Ok o) i w → Did (ended s (generation_in h) n) s (granted tt) (store_of s.decl i w s.words)
+  has_ended {i = i} l =
+      let ids : i ≡ freed_ids left (generation_in h) n = l.frees.leaves ∙ ap (λ (z : Answer (Place × Ids)). left_of z left) freeable in
+      record { answer = refl; leaves = rw (← vacant, ids, l.rows_are) }
 
 module _ (s : Store) (g n : ℕ) where
   pub stays : {m : ℕ} → refused m ≡ leaving s g n → despawned s g n ≡ refused m
@@ -127,33 +112,40 @@ module _ (s : Store) (g n : ℕ) where
 
 -- the row that a despawn ends, and what the steps then leave
 module _ (s : Store) (bits : ℕ) where
-  pub refused_first : (x : Refusal) → refused (number_of x) ≡ passing (entry s false) → Finds s bits (found.Refused x)
-  unfolding Finds despawning
-  refused_first x e = on_first _ _ _ e
+  pub refuses : (r : Result (Span × Place) Refusal) (x : Refusal) → IsErrAnd r (λ y. y ≡ x) → despawning s bits ≡ refused (number_of x) → Finds s bits r
+  unfolding Finds
+  refuses r x h e = let p = err_from_is_err_and r h in rw (p.1, p.2) e
 
-  module _ (e : granted tt ≡ passing (entry s false)) (r : Bits) (a : answer_of r ≡ from_bits bits) where
-    pub refused_zero : (x : Refusal) → r ≡ bad.Refused x → Finds s bits (found.Refused ZeroGeneration)
+  pub first_refuse : {m : ℕ} → refused m ≡ passing (entry s false) → despawning s bits ≡ refused m
+  unfolding despawning
+  first_refuse e = on_first _ _ _ e
+
+  module _ (e : granted tt ≡ passing (entry s false)) (r : Result Handle Refusal) (a : handle_of r ≡ from_bits bits) where
+    pub refused_zero : (x : Refusal) → r ≡ Err x → Finds s bits (Err ZeroGeneration)
     unfolding Finds despawning
     refused_zero x p = on_zero _ _ _ r x e a p
 
-    pub row_found : (h : Handle) → r ≡ Good h → (l : Leaving) → leaving_of l ≡ leaving s (generation_in h.0) (number_in h.0) → Finds s bits l
+    pub row_found : (h : Handle) → r ≡ Ok h → (l : Result (Span × Place) Refusal) → answer_of l ≡ leaving s (generation_in h.0) (number_in h.0) → Finds s bits l
     unfolding Finds despawning
-    row_found h p (found.From span place) k =
+    row_found h p (Ok found) k =
         let q = (good bits r h a p).0 in
-        (entered s false e, rw q at (from_bits_nonzero bits h (sym (ap answer_of p) ∙ a)), rw q at k)
-    row_found h p (found.Refused x) k = on_good _ _ _ r h e a p ∙ stays s (generation_in h.0) (number_in h.0) k
+        (entered s false e, rw q at (from_bits_nonzero bits h (sym (ap handle_of p) ∙ a)), rw q at k)
+    row_found h p (Err x) k = on_good _ _ _ r h e a p ∙ stays s (generation_in h.0) (number_in h.0) k
 
-  module _ (l : Leaving) (f : Finds s bits l) where
-    pub refused_so : (x : Refusal) → l ≡ found.Refused x → despawning s bits ≡ refused (number_of x)
-    unfolding Finds
-    refused_so x p = rw p at f
+  pub refused_so : (x : Refusal) → Finds s bits (Err x) → despawning s bits ≡ refused (number_of x)
+  unfolding Finds
+  refused_so x f = f
 
-    pub ends : (span : Span) (place : Place) → l ≡ found.From span place → (said : Freed) (g x y p : List ℕ) (w : Rows) (r : Done)
-        → Leaves (vacated_seats (block_by s.decl.rows span place.archetype) (part_by s.decl.sizes span) (seats_of s.ids.archetypes s.ids.indices s.rows) place.archetype place.index.0)
-        s.ids.head s.ids.generations s.ids.pending bits said (ids_of (freed_head s.ids.head said) g x y p) w
-        → r ≡ done_by said → Did (despawning s bits) s (done_of r) (store_of s.decl (ids_of (head_after s.ids.head r) g x y p) w s.words)
+  module _ (span : Span) (place : Place) (f : Finds s bits (Ok (span, place))) where
+    abbrev vacant_seats : Seats
+    vacant_seats = vacated_seats (block_by s.decl.rows span place.archetype) (part_by s.decl.sizes span) (seats_of s.ids.archetypes s.ids.indices s.rows) place.archetype place.index.0
+
+    pub refuses_not : {x : Refusal} {i : Ids} {w : Rows} → Leaves vacant_seats s.ids.head s.ids.generations s.ids.pending bits (Err x) i w → ⊥
     unfolding Finds
-    ends span place q said g x y p w r v d =
-        let k : Finds s bits (found.From span place) = rw q at f in
-        via (despawning_at s bits k.0 k.1 (despawn_ok s (generation_in bits) (number_in bits) (leaving_parts s (generation_in bits) (number_in bits) k.2).0))
-        (has_ended s bits k.0 k.1 span place k.2 said g x y p w r v d)
+    refuses_not l = frees_there s bits f.0 f.1 span place f.2 l.frees
+
+    pub ends : {o : Place} {i : Ids} {w : Rows} → Leaves vacant_seats s.ids.head s.ids.generations s.ids.pending bits (Ok o) i w → Did (despawning s bits) s (granted tt) (store_of s.decl i w s.words)
+    unfolding Finds
+    ends l =
+        via (despawning_at s bits f.0 f.1 (despawn_ok s (generation_in bits) (number_in bits) (leaving_parts s (generation_in bits) (number_in bits) f.2).0))
+        (has_ended s bits f.0 f.1 span place f.2 l)

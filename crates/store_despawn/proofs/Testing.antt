@@ -34,23 +34,23 @@ module _ (s : Store) (e : Entered s) (g n : ℕ) where
     unfolding leaving despawn_rules
     further = entity_first s g n _ _ ∙ entity_goes s e g n span place p _
 
-    pub held : any_held s.words ≡ true → refused 8 ≡ leaving s g n
+    pub held : true ≡ any_held s.words → refused 8 ≡ leaving s g n
     unfolding ◌or_else◌
-    held h = rw (further, h)
+    held t = rw (further, ← t)
 
-    module _ (h : any_held s.words ≡ false) where
+    module _ (w : false ≡ any_held s.words) where
       pub none_live : s.ids.head.live ≡ 0 → refused 1 ≡ leaving s g n
       unfolding ◌or_else◌
-      none_live z = rw (further, h, eq-eqb _ _ z)
+      none_live z = rw (further, ← w, eq-eqb _ _ z)
 
       module _ (z : s.ids.head.live ≡ 0 → ⊥) (moved : Bool) (m : moved ≡ moved_seen span.row s.ids.head.used s.ids.archetypes s.ids.indices s.rows.numbers s.rows.counts place.archetype place.index.0) where
-        told : moved ≡ moved_damaged s (archetype_of s n) (row_of s n)
-        told = (rw (entity_span s e g n span place p, entity_place s e g n span place p) at m) ∙ moved_seen_lem s (archetype_of s n) (row_of s n)
+        seen : moved ≡ moved_damaged s (archetype_of s n) (row_of s n)
+        seen = (rw (entity_span s e g n span place p, entity_place s e g n span place p) at m) ∙ moved_seen_lem s (archetype_of s n) (row_of s n)
 
         pub moved_damaged_lem : moved ≡ true → refused 1 ≡ leaving s g n
         unfolding ◌or_else◌
-        moved_damaged_lem t = rw (further, h, ne_eqb _ _ z, ← told, t)
+        moved_damaged_lem t = rw (further, ← w, ne_eqb _ _ z, ← seen, t)
 
         pub leaves : moved ≡ false → granted (span, place) ≡ leaving s g n
         unfolding ◌or_else◌
-        leaves t = rw (further, h, ne_eqb _ _ z, ← told, t, entity_span s e g n span place p, entity_place s e g n span place p)
+        leaves t = rw (further, ← w, ne_eqb _ _ z, ← seen, t, entity_span s e g n span place p, entity_place s e g n span place p)

@@ -2,150 +2,72 @@
 #![tactic(auto)]
 
 ghost use Rattle.std.specs.Prelude.{◌≡◌};
-ghost use Rattle.refusal.specs.Table.{Did};
+ghost use Rattle.refusal.specs.Table.{Did, answer_of};
 ghost use Rattle.handle.specs.Bits.{generation_in, number_in};
-ghost use Rattle.id_tables.specs.Ids.{ids_of};
-ghost use Rattle.id_tables.specs.Lookup.{done_of, head_after};
-ghost use Rattle.ids.specs.Answers.{freed_head};
-ghost use Rattle.decl.specs.Decl.{decl_of};
-ghost use Rattle.row_step.specs.Tables.{tables_of};
+ghost use Rattle.id_tables.specs.Ids.{ids_in, ids_of};
+ghost use Rattle.decl.specs.Decl.{decl_in};
+ghost use Rattle.row_step.specs.Tables.{rows_in, tables_of};
 ghost use Rattle.store_steps.specs.Parts.{block_by, part_by};
 ghost use Rattle.store_steps.specs.Seats.{seats_of, vacated_seats};
-ghost use Rattle.store_tables.specs.Store.{store_of};
+ghost use Rattle.store_tables.specs.Store.{store_in, store_of};
 ghost use Rattle.store_tables.specs.Kept.{Entered};
 ghost use Rattle.store_despawn.specs.Despawn.{despawning};
-ghost use Rattle.store_despawn.specs.Seen.{leaving, leaving_of, Finds, Leaves, done_by};
+ghost use Rattle.store_despawn.specs.Seen.{leaving, Finds, Leaves};
 
 use borrow_word::any_held;
-use decl::Span;
-use handle::{Bits, Handle, Place};
-use id_tables::{Done, Head};
-use ids::Freed;
-use refusal::{Refusal, Tested};
-use store_tables::{Entity, entity_at, is_moved_damaged};
+use decl::{Declaration, Span};
+use handle::{Handle, Place};
+use id_tables::{Head, IdTables};
+use refusal::Refusal;
+use row_step::RowTables;
+use store_tables::StoreTables;
 
-// The row that leaves: its archetype's part of the tables, and its place.
-#[derive(Clone, Copy)]
-enum Leaving {
-    From(Span, Place),
-    Refused(Refusal),
-}
-
-// What a despawn tests of a handle.
-fn row_leaving(
-    head: Head,
-    rows: &[u32],
-    widths: &[u32],
-    types: &[u32],
-    sizes: &[u32],
-    generations: &[u32],
-    archetypes: &[u32],
-    indices: &[u32],
-    pending: &[u32],
-    numbers: &[u32],
-    counts: &[u32],
-    bytes: &[u8],
-    words: &[u64],
-    handle: Handle,
-) -> Leaving
-    requires { Entered (store_of (decl_of rows.now widths.now types.now sizes.now) (ids_of head generations.now archetypes.now indices.now pending.now) (tables_of numbers.now counts.now bytes.now) words.now) }
-    ensures { leaving_of result ≡ leaving (store_of (decl_of rows.now widths.now types.now sizes.now) (ids_of head generations.now archetypes.now indices.now pending.now) (tables_of numbers.now counts.now bytes.now) words.now) (generation_in handle.0) (number_in handle.0) }
+// What a despawn tests of a handle: the row that leaves, as its archetype's part of the tables and its place.
+fn row_leaving(store: &StoreTables<'_>, handle: Handle) -> Result<(Span, Place), Refusal>
+    requires { Entered (store_in store.now) }
+    ensures { answer_of result ≡ leaving (store_in store.now) (generation_in handle.0) (number_in handle.0) }
 {
-    match entity_at(
-        head,
-        rows,
-        widths,
-        types,
-        sizes,
-        generations,
-        archetypes,
-        indices,
-        pending,
-        numbers,
-        counts,
-        handle,
-    ) {
-        Entity::Refused(r) => Leaving::Refused(r),
-        Entity::At(span, place) => {
-            if any_held(words) {
-                return Leaving::Refused(Refusal::WordHeld);
-            }
-            if head.live == 0 {
-                return Leaving::Refused(Refusal::Damaged);
-            }
-            if is_moved_damaged(
-                head.used, archetypes, indices, numbers, counts, span.row, place,
-            ) {
-                return Leaving::Refused(Refusal::Damaged);
-            }
-            Leaving::From(span, place)
-        }
+    let (span, place) = store.entity_at(handle)?;
+    if any_held(store.words) {
+        return Err(Refusal::WordHeld);
     }
+    let head = store.ids.head;
+    if head.live == 0 {
+        return Err(Refusal::Damaged);
+    }
+    if store.is_moved_damaged(span.row, place) {
+        return Err(Refusal::Damaged);
+    }
+    Ok((span, place))
 }
 
 // The row of the entity that a despawn ends, or why it is refused.
 fn row_for(
-    head: Head,
-    rows: &[u32],
-    widths: &[u32],
-    types: &[u32],
-    sizes: &[u32],
-    generations: &[u32],
-    archetypes: &[u32],
-    indices: &[u32],
-    pending: &[u32],
-    numbers: &[u32],
-    counts: &[u32],
-    bytes: &[u8],
+    declaration: &Declaration<'_>,
+    ids: &IdTables<'_>,
+    rows: &RowTables<'_>,
     words: &[u64],
     bits: u64,
-) -> Leaving
-    ensures { Finds (store_of (decl_of rows.now widths.now types.now sizes.now) (ids_of head generations.now archetypes.now indices.now pending.now) (tables_of numbers.now counts.now bytes.now) words.now) bits result }
+) -> Result<(Span, Place), Refusal>
+    ensures { Finds (store_of (decl_in declaration.now) (ids_in ids.now) (rows_in rows.now) words.now) bits result }
 {
-    if let Tested::Refused(r) = store_tables::tested(
-        head,
-        rows,
-        widths,
-        types,
-        sizes,
-        generations,
-        archetypes,
-        indices,
-        pending,
-        numbers,
-        counts,
-        bytes,
+    let store = StoreTables {
+        declaration: *declaration,
+        ids: *ids,
+        rows: *rows,
         words,
-        false,
-    ) {
-        return Leaving::Refused(r);
-    }
-    let Bits::Good(handle) = Handle::from_bits(bits) else {
-        return Leaving::Refused(Refusal::ZeroGeneration);
     };
-    row_leaving(
-        head,
-        rows,
-        widths,
-        types,
-        sizes,
-        generations,
-        archetypes,
-        indices,
-        pending,
-        numbers,
-        counts,
-        bytes,
-        words,
-        handle,
-    )
+    store.tested(false)?;
+    let Ok(handle) = Handle::from_bits(bits) else {
+        return Err(Refusal::ZeroGeneration);
+    };
+    row_leaving(&store, handle)
 }
 
 // The row leaves, then the number is freed.
 fn leave(
-    head: Head,
-    rows: &[u32],
-    sizes: &[u32],
+    head: &mut Head,
+    declaration: &Declaration<'_>,
     generations: &mut [u32],
     archetypes: &mut [u32],
     indices: &mut [u32],
@@ -156,32 +78,29 @@ fn leave(
     bits: u64,
     span: Span,
     place: Place,
-) -> Freed
-    ensures { Leaves (vacated_seats (block_by rows.now span place.archetype) (part_by sizes.now span) (seats_of archetypes.old indices.old (tables_of numbers.old counts.old bytes.old)) place.archetype place.index.0) head generations.old pending.old bits result (ids_of (freed_head head result) generations.new archetypes.new indices.new pending.new) (tables_of numbers.new counts.new bytes.new) }
+) -> Result<Place, Refusal>
+    ensures { let seats = seats_of archetypes.old indices.old (tables_of numbers.old counts.old bytes.old) in
+        let vacant = vacated_seats (block_by declaration.now.rows.now span place.archetype) (part_by declaration.now.sizes.now span) seats place.archetype place.index.0 in
+        let left = ids_of head.new generations.new archetypes.new indices.new pending.new in
+        Leaves vacant head.old generations.old pending.old bits result left (tables_of numbers.new counts.new bytes.new) }
 {
     store_steps::vacate(
-        rows, sizes, archetypes, indices, numbers, counts, bytes, span, place,
+        declaration,
+        archetypes,
+        indices,
+        numbers,
+        counts,
+        bytes,
+        span,
+        place,
     );
     ids::free(head, generations, archetypes, indices, pending, bits)
 }
 
-// The head that the id layer hands back.
-fn done_by(said: Freed) -> Done
-    ensures { result ≡ done_by said }
-{
-    match said {
-        Freed::From(_, left) => Done::Granted(left),
-        Freed::Refused(r) => Done::Refused(r),
-    }
-}
-
-// Ends an entity.
+// Ends an entity. The tables stay slices, as in the calls to which C lends some of them const: a struct of `&mut` would serve this call alone.
 pub fn despawn(
-    head: Head,
-    rows: &[u32],
-    widths: &[u32],
-    types: &[u32],
-    sizes: &[u32],
+    head: &mut Head,
+    declaration: &Declaration<'_>,
     generations: &mut [u32],
     archetypes: &mut [u32],
     indices: &mut [u32],
@@ -191,15 +110,27 @@ pub fn despawn(
     bytes: &mut [u8],
     words: &[u64],
     bits: u64,
-) -> Done
-    ensures { Did (despawning (store_of (decl_of rows.now widths.now types.now sizes.now) (ids_of head generations.old archetypes.old indices.old pending.old) (tables_of numbers.old counts.old bytes.old) words.now) bits) (store_of (decl_of rows.now widths.now types.now sizes.now) (ids_of head generations.old archetypes.old indices.old pending.old) (tables_of numbers.old counts.old bytes.old) words.now) (done_of result) (store_of (decl_of rows.now widths.now types.now sizes.now) (ids_of (head_after head result) generations.new archetypes.new indices.new pending.new) (tables_of numbers.new counts.new bytes.new) words.now) }
+) -> Result<(), Refusal>
+    ensures { let lent = store_of (decl_in declaration.now) (ids_of head.old generations.old archetypes.old indices.old pending.old) (tables_of numbers.old counts.old bytes.old) words.now in
+        let left = store_of (decl_in declaration.now) (ids_of head.new generations.new archetypes.new indices.new pending.new) (tables_of numbers.new counts.new bytes.new) words.now in
+        Did (despawning lent bits) lent (answer_of result) left }
 {
-    match row_for(
+    let ids = IdTables {
+        head: *head,
+        generations,
+        archetypes,
+        indices,
+        pending,
+    };
+    let rows = RowTables {
+        numbers,
+        counts,
+        bytes,
+    };
+    let (span, place) = row_for(declaration, &ids, &rows, words, bits)?;
+    leave(
         head,
-        rows,
-        widths,
-        types,
-        sizes,
+        declaration,
         generations,
         archetypes,
         indices,
@@ -207,27 +138,9 @@ pub fn despawn(
         numbers,
         counts,
         bytes,
-        words,
         bits,
-    ) {
-        Leaving::Refused(r) => Done::Refused(r),
-        Leaving::From(span, place) => {
-            let said = leave(
-                head,
-                rows,
-                sizes,
-                generations,
-                archetypes,
-                indices,
-                pending,
-                numbers,
-                counts,
-                bytes,
-                bits,
-                span,
-                place,
-            );
-            done_by(said)
-        }
-    }
+        span,
+        place,
+    )?;
+    Ok(())
 }

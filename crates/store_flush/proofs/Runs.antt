@@ -1,13 +1,16 @@
--- Numbers in successive places of a table: a loop's step, two runs that make one, what stands where, and a table that is emptied.
+-- Numbers in successive places of a table: a loop's step, two runs that make one, a part that is copied, what stands where.
 -- Assumes nothing.
 use Prim.Native.Nat.{ℕ, ◌+◌, ◌<◌, ◌≤◌}
 use mathlib.Core.Path.{◌≡◌, refl, sym, ◌∙◌}
-use mathlib.Core.List.{List, ◌++◌, append-nil}
+use mathlib.Core.List.{List, ◌++◌}
 use native.Mathlib.Omega.{arith}
-use lib.ListN.{length, get_or, set, replicate, length-append, length-replicate, drop_of_length-le}
+use lib.ListN.{length, get_or, set, length-append}
+use lib.Seq.{sets-eq}
+use borrow.Rule.Slice.PartMut.{put_mid}
+use Rattle.std.proofs.Common.{append_assoc}
+use Rattle.std.proofs.lemmas.List.{drop-drop}
 use Rattle.id_tables.specs.Runs.{up_from, length_up_from, up_from_at}
-use Rattle.id_batches.specs.Seating.{set_all}
-use Rattle.id_batches.proofs.Setting.{Rest, rest_next, rest_none, up_in, up_here, up_end, up_from_append, set_long, set_two, front_set}
+use Rattle.id_batches.proofs.Setting.{Rest, rest_next, rest_none, up_in, up_here, up_end, up_from_append, set_long, set_two, run_sets}
 use Rattle.id_batches.proofs.Numbers.{up_each, up_different}
 use Rattle.id_batches.proofs.Seats.{set_here, set_other}
 use Rattle.store_flush.specs.Flush.{listed}
@@ -18,6 +21,10 @@ module _ {l₀ l vs : List ℕ} {i : ℕ} (place : ℕ) (e : Rest l₀ l (up_fro
 
   pub list_end : length vs ≤ i → l ≡ listed l₀ place vs
   list_end h = rest_none e (up_end place h)
+
+-- a part that is copied is that run of entries set
+pub copied : (l vs part : List ℕ) (place k : ℕ) → part ≡ vs → k ≡ length vs → place + length vs ≤ length l → put_mid place k l part ≡ listed l place vs
+copied l vs part place k e q h = rw (e, q, drop-drop) (sym (rw append_assoc at (run_sets l vs place ∙ sets-eq vs l place h)))
 
 -- two runs, the one after the other, are one
 pub listed_two : (l us vs : List ℕ) (place : ℕ) → listed l place (us ++ vs) ≡ listed (listed l place us) (place + length us) vs
@@ -36,10 +43,3 @@ module _ (l vs : List ℕ) (place : ℕ) where
 
   pub listed_other : (p : ℕ) → ((i : ℕ) → i < length vs → p ≡ place + i → ⊥) → get_or (listed l place vs) p 0 ≡ get_or l p 0
   listed_other p a = set_other l (up_from place (length vs)) vs p (up_each place (length vs) (λ n. n ≡ p → ⊥) (λ i h e. a i h (sym e)))
-
--- every entry is 0
-pub all_zero : (l : List ℕ) → set_all l (up_from 0 (length l)) 0 ≡ replicate (length l) 0
-all_zero l =
-    let n = length-replicate {A = ℕ} (length l) 0 in
-    let h : length l ≤ length l = omega arith in
-    rw (length_up_from 0 (length l)) (rw (n, drop_of_length-le l h, append-nil) at (front_set l (replicate (length l) 0) (omega (arith, n))))

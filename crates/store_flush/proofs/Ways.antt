@@ -10,18 +10,14 @@ use mathlib.Core.List.{List, [], ◌∷◌, ◌++◌}
 use lib.ListN.{length, get_or, set, replicate}
 use lib.Seq.{slice}
 use borrow.Author.Tests.{lt-ltb, le-ltb}
-use Rattle.refusal.specs.Number.{number_of}
 use Rattle.refusal.specs.Table.{◌when◌, granted, refused, passing, ◌or_else◌, ◌otherwise◌, Did}
 use Rattle.refusal.specs.Laws.{grant, refuse, stop, go, passed, stopped, did_granted, did_refused}
-use Rattle.refusal.specs.declared.Refusal.{Refusal}
 use Rattle.handle.specs.Bits.{MAX}
 use Rattle.borrow_word.specs.Slice.{any_held}
 use Rattle.id_tables.specs.declared.head.Head.{Head}
-use Rattle.id_tables.specs.declared.lookup.Done.{Done}
-use Rattle.id_tables.specs.declared.lookup.Done.TheVariants.{Granted, Refused}
 use Rattle.id_tables.specs.Head.{free_of, new_of, flushed_head}
-use Rattle.id_tables.specs.Ids.{ids_of, any_damaged}
-use Rattle.id_tables.specs.Lookup.{reserved_old, done_of, head_after}
+use Rattle.id_tables.specs.Ids.{Ids, ids_of, any_damaged}
+use Rattle.id_tables.specs.Lookup.{reserved_old}
 use Rattle.id_tables.specs.Runs.{up_from, length_up_from}
 use Rattle.id_batches.specs.Flush.{reserved_count, flushed_ids}
 use Rattle.id_batches.specs.Flush as ids
@@ -79,27 +75,25 @@ module _ (s : Store) where
       id_flush : ids.flushing s.ids 0 count ≡ (1 when any_damaged s.ids (reserved_old s.ids) ∷ [] otherwise (tt, flushed_ids s.ids 0 count))
       id_flush = flushing_fits s.ids 0 count e.ids (omega (arith, suffices, shaped.rows_in 0))
 
-      -- what the id layer said and left
-      module _ (said : Done) (g a x : List ℕ)
-          (d : Did (ids.flushing s.ids 0 count) s.ids (done_of said) (ids_of (head_after s.ids.head said) g a x s.ids.pending)) where
-        pub seat_refused : (why : Refusal) → said ≡ Refused why
-            → Did (reserved_seated s) s (refused (number_of why)) (store_of s.decl (ids_of s.ids.head g a x s.ids.pending) s.rows s.words)
-        unfolding ◌or_else◌
-        seat_refused why q =
-            let p = did_refused (ids.flushing s.ids 0 count) (rw q at d) in
-            let t = stopped (number_of why) 1 (any_damaged s.ids (reserved_old s.ids)) _ (sym p.0 ∙ id_flush) in
-            rw p.1 (refuse (past_rows ∙ rw (t.0, t.1)))
+      -- what the id layer refused, and what it did
+      pub seat_refused : {m : ℕ} (left : Ids) → Did (ids.flushing s.ids 0 count) s.ids (refused m) left
+          → Did (reserved_seated s) s (refused m) (store_of s.decl left s.rows s.words)
+      unfolding ◌or_else◌
+      seat_refused {m = m} left d =
+          let p = did_refused (ids.flushing s.ids 0 count) d in
+          let t = stopped m 1 (any_damaged s.ids (reserved_old s.ids)) _ (sym p.0 ∙ id_flush) in
+          rw p.1 (refuse (past_rows ∙ rw (t.0, t.1)))
 
-        pub seat_done : (left : Head) → said ≡ Granted left → (numbers counts : List ℕ)
-            → numbers ≡ listed s.rows.numbers count (up_from s.ids.head.used (new_of s.ids.head.cursor) ++ slice (free_of s.ids.head.cursor) s.ids.head.pending s.ids.pending)
-            → counts ≡ set s.rows.counts 0 (count + (fresh + (s.ids.head.pending - free)))
-            → Did (reserved_seated s) s (granted tt) (store_of s.decl (ids_of left g a x s.ids.pending) (tables_of numbers counts s.rows.bytes) s.words)
-        unfolding ◌or_else◌ flushed_rows
-        seat_done left q numbers counts u v =
-            let p = did_granted (ids.flushing s.ids 0 count) (rw q at d) in
-            let t = passed 1 (any_damaged s.ids (reserved_old s.ids)) [] _ (sym p ∙ id_flush) in
-            let i : ids_of left g a x s.ids.pending ≡ flushed_ids s.ids 0 count = cc in
-            rw (i, u, v, c, n, f) (grant (past_rows ∙ rw (t.0, first_row_lem s.decl shaped, zero-add (count_of s.rows 0))))
+      pub seat_done : (left : Ids) → Did (ids.flushing s.ids 0 count) s.ids (granted tt) left → (numbers counts : List ℕ)
+          → numbers ≡ listed s.rows.numbers count (up_from s.ids.head.used (new_of s.ids.head.cursor) ++ slice (free_of s.ids.head.cursor) s.ids.head.pending s.ids.pending)
+          → counts ≡ set s.rows.counts 0 (count + (fresh + (s.ids.head.pending - free)))
+          → Did (reserved_seated s) s (granted tt) (store_of s.decl left (tables_of numbers counts s.rows.bytes) s.words)
+      unfolding ◌or_else◌ flushed_rows
+      seat_done left d numbers counts u v =
+          let p = did_granted (ids.flushing s.ids 0 count) d in
+          let t = passed 1 (any_damaged s.ids (reserved_old s.ids)) [] _ (sym p ∙ id_flush) in
+          let i : left ≡ flushed_ids s.ids 0 count = cc in
+          rw (i, u, v, c, n, f) (grant (past_rows ∙ rw (t.0, first_row_lem s.decl shaped, zero-add (count_of s.rows 0))))
 
 -- clear
 module _ (s : Store) where

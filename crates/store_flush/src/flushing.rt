@@ -1,8 +1,7 @@
 // Flush: every reserved number gets a row of archetype 0.
-ghost use Rattle.refusal.specs.Table.{Did};
+ghost use Rattle.refusal.specs.Table.{Did, answer_of};
 ghost use Rattle.id_tables.specs.Ids.{ids_of};
-ghost use Rattle.id_tables.specs.Lookup.{done_of, head_after};
-ghost use Rattle.decl.specs.Decl.{decl_of};
+ghost use Rattle.decl.specs.Decl.{decl_in};
 ghost use Rattle.row_step.specs.Tables.{tables_of};
 ghost use Rattle.store_tables.specs.Store.{store_of};
 ghost use Rattle.store_tables.specs.Kept.{Entered};
@@ -10,17 +9,17 @@ ghost use Rattle.store_flush.specs.Flush.{reserved_seated, flushing};
 
 use crate::listing::list_reserved;
 use borrow_word::any_held;
+use decl::Declaration;
 use handle::Row;
-use id_tables::{Done, Head, at, put};
-use refusal::{Refusal, Tested};
+use id_tables::{Head, IdTables, at, put};
+use refusal::Refusal;
+use row_step::RowTables;
+use store_tables::StoreTables;
 
 // What is left of a flush once the first tests have passed. Where the rows suffice, the id layer refuses only for damage.
 fn seat_reserved(
-    head: Head,
-    rows: &[u32],
-    widths: &[u32],
-    types: &[u32],
-    sizes: &[u32],
+    head: &mut Head,
+    declaration: &Declaration<'_>,
     generations: &mut [u32],
     archetypes: &mut [u32],
     indices: &mut [u32],
@@ -29,19 +28,22 @@ fn seat_reserved(
     counts: &mut [u32],
     bytes: &[u8],
     words: &[u64],
-) -> Done
-    requires { Entered (store_of (decl_of rows.now widths.now types.now sizes.now) (ids_of head generations.old archetypes.old indices.old pending.now) (tables_of numbers.old counts.old bytes.now) words.now) }
-    ensures { Did (reserved_seated (store_of (decl_of rows.now widths.now types.now sizes.now) (ids_of head generations.old archetypes.old indices.old pending.now) (tables_of numbers.old counts.old bytes.now) words.now)) (store_of (decl_of rows.now widths.now types.now sizes.now) (ids_of head generations.old archetypes.old indices.old pending.now) (tables_of numbers.old counts.old bytes.now) words.now) (done_of result) (store_of (decl_of rows.now widths.now types.now sizes.now) (ids_of (head_after head result) generations.new archetypes.new indices.new pending.now) (tables_of numbers.new counts.new bytes.now) words.now) }
+) -> Result<(), Refusal>
+    requires { Entered (store_of (decl_in declaration.now) (ids_of head.old generations.old archetypes.old indices.old pending.now) (tables_of numbers.old counts.old bytes.now) words.now) }
+    ensures { let lent = store_of (decl_in declaration.now) (ids_of head.old generations.old archetypes.old indices.old pending.now) (tables_of numbers.old counts.old bytes.now) words.now in
+        let left = store_of (decl_in declaration.now) (ids_of head.new generations.new archetypes.new indices.new pending.now) (tables_of numbers.new counts.new bytes.now) words.now in
+        Did (reserved_seated lent) lent (answer_of result) left }
 {
     if any_held(words) {
-        return Done::Refused(Refusal::WordHeld);
+        return Err(Refusal::WordHeld);
     }
+    let lent = *head;
     let count = at(counts, 0);
-    let reserved = head.fresh() + (head.pending - head.free());
-    if (at(rows, 0) as usize) < count as usize + reserved {
-        return Done::Refused(Refusal::NoRoom);
+    let reserved = lent.fresh() + (lent.pending - lent.free());
+    if (at(declaration.rows, 0) as usize) < count as usize + reserved {
+        return Err(Refusal::NoRoom);
     }
-    match id_batches::flush(
+    id_batches::flush(
         head,
         generations,
         archetypes,
@@ -49,23 +51,16 @@ fn seat_reserved(
         pending,
         0,
         Row(count),
-    ) {
-        Done::Refused(r) => Done::Refused(r),
-        Done::Granted(left) => {
-            list_reserved(head, pending, numbers, count as usize);
-            put(counts, 0, count + reserved as u32);
-            Done::Granted(left)
-        }
-    }
+    )?;
+    list_reserved(lent, pending, numbers, count as usize);
+    put(counts, 0, count + reserved as u32);
+    Ok(())
 }
 
-// The reserved numbers become live, each in a row of archetype 0, which has no columns.
+// The reserved numbers become live, each in a row of archetype 0, which has no columns. The tables stay slices: C lends some const and others to be written, so no one struct can hold them.
 pub fn flush(
-    head: Head,
-    rows: &[u32],
-    widths: &[u32],
-    types: &[u32],
-    sizes: &[u32],
+    head: &mut Head,
+    declaration: &Declaration<'_>,
     generations: &mut [u32],
     archetypes: &mut [u32],
     indices: &mut [u32],
@@ -74,33 +69,31 @@ pub fn flush(
     counts: &mut [u32],
     bytes: &[u8],
     words: &[u64],
-) -> Done
-    ensures { Did (flushing (store_of (decl_of rows.now widths.now types.now sizes.now) (ids_of head generations.old archetypes.old indices.old pending.now) (tables_of numbers.old counts.old bytes.now) words.now)) (store_of (decl_of rows.now widths.now types.now sizes.now) (ids_of head generations.old archetypes.old indices.old pending.now) (tables_of numbers.old counts.old bytes.now) words.now) (done_of result) (store_of (decl_of rows.now widths.now types.now sizes.now) (ids_of (head_after head result) generations.new archetypes.new indices.new pending.now) (tables_of numbers.new counts.new bytes.now) words.now) }
+) -> Result<(), Refusal>
+    ensures { let lent = store_of (decl_in declaration.now) (ids_of head.old generations.old archetypes.old indices.old pending.now) (tables_of numbers.old counts.old bytes.now) words.now in
+        let left = store_of (decl_in declaration.now) (ids_of head.new generations.new archetypes.new indices.new pending.now) (tables_of numbers.new counts.new bytes.now) words.now in
+        Did (flushing lent) lent (answer_of result) left }
 {
-    if let Tested::Refused(r) = store_tables::tested(
-        head,
-        rows,
-        widths,
-        types,
-        sizes,
-        generations,
-        archetypes,
-        indices,
-        pending,
-        numbers,
-        counts,
-        bytes,
+    let store = StoreTables {
+        declaration: *declaration,
+        ids: IdTables {
+            head: *head,
+            generations,
+            archetypes,
+            indices,
+            pending,
+        },
+        rows: RowTables {
+            numbers,
+            counts,
+            bytes,
+        },
         words,
-        false,
-    ) {
-        return Done::Refused(r);
-    }
+    };
+    store.tested(false)?;
     seat_reserved(
         head,
-        rows,
-        widths,
-        types,
-        sizes,
+        declaration,
         generations,
         archetypes,
         indices,

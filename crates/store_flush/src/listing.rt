@@ -13,10 +13,8 @@ fn list_new(numbers: &mut [u32], place: usize, from: u32, count: u32)
     requires { (from + count ≤ MAX) × (place + count ≤ length numbers.old) }
     ensures { numbers.new ≡ listed numbers.old place (up_from from count) }
 {
-    let mut i = 0;
-    while i < count {
+    for i in 0..count {
         numbers[place + i as usize] = from + i;
-        i += 1;
     }
 }
 
@@ -25,11 +23,7 @@ fn list_old(numbers: &mut [u32], place: usize, old: &[u32])
     requires { place + length old.now ≤ length numbers.old }
     ensures { numbers.new ≡ listed numbers.old place old.now }
 {
-    let mut i = 0;
-    while i < old.len() {
-        numbers[place + i] = old[i];
-        i += 1;
-    }
+    numbers[place..place + old.len()].copy_from_slice(old);
 }
 
 // The reserved numbers of this head: the new ones first, then the pending ones that are not free.

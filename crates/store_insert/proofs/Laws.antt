@@ -6,7 +6,8 @@ use mathlib.Core.Path.{◌≡◌, refl, ◌∙◌}
 use mathlib.Core.Bool.{false}
 use mathlib.Core.List.{List, [], ◌∷◌}
 use mathlib.Core.Logic.{◌⊎◌, inl, inr}
-use mathlib.Core.Option.{some}
+use Rattle.std.proofs.Math.Option.{some}
+use Rattle.std.specs.Prelude.{Option, Some, None}
 use lib.ListN.{length}
 use Rattle.refusal.specs.Table.{◌when◌, granted, ◌or_else◌, passing}
 use Rattle.refusal.specs.Laws.{passed_all, none_holds, value_of_lem, past}
@@ -15,8 +16,6 @@ use Rattle.handle.specs.OnBits.{on_rest, on_granted}
 use Rattle.borrow_word.specs.Slice.{any_held}
 use Rattle.decl.specs.Decl.{types_of}
 use Rattle.decl.specs.Lookup.{column_of}
-use Rattle.decl.specs.declared.Column.{Column}
-use Rattle.decl.specs.declared.Column.TheVariants.{At, Missing}
 use Rattle.column_entry.specs.Entry.{wrong_size}
 use Rattle.store_tables.specs.Store.{Store, entry}
 use Rattle.store_tables.specs.Rows.{archetype_of, row_of}
@@ -34,13 +33,13 @@ row_with s n t value = run_with s.decl s.rows (archetype_of s n) (row_of s n) t 
 -- what passing the tests of an insert gives, beyond the first: the column of a type that is held
 pub record OverOk (s : Store) (t g n j : ℕ) : Type 0 where
   pub entity : EntityOk s g n
-  pub held : column_of (types_of s.decl (archetype_of s n)) t ≡ At j
+  pub held : column_of (types_of s.decl (archetype_of s n)) t ≡ Some j
   pub no_word : any_held s.words ≡ false
 
 -- and the target of one that is not
 pub record IntoOk (s : Store) (t g n b : ℕ) : Type 0 where
   pub entity : EntityOk s g n
-  pub missing : column_of (types_of s.decl (archetype_of s n)) t ≡ Missing
+  pub missing : column_of (types_of s.decl (archetype_of s n)) t ≡ None
   pub target : target_of s.decl (with_type t (types_of s.decl (archetype_of s n))) ≡ some b
   pub move : MoveOk s n b
 
@@ -62,10 +61,10 @@ module _ (s : Store) (t : ℕ) (value : List ℕ) (g n : ℕ) where
       ((j : ℕ) × OverOk s t g n j × (x ≡ (tt, overwritten s n j value)))
       ⊎ ((b : ℕ) × IntoOk s t g n b × (x ≡ (tt, moved_to s n b (row_with s n t value))))
 
-  by_column : EntityOk s g n → (c : Column) → column_of (types_of s.decl (archetype_of s n)) t ≡ c → {x : Unit {0} × Store} → granted x ≡ inserted_at s n t value c → Came x
+  by_column : EntityOk s g n → (c : Option ℕ) → column_of (types_of s.decl (archetype_of s n)) t ≡ c → {x : Unit {0} × Store} → granted x ≡ inserted_at s n t value c → Came x
   unfolding inserted_at
-  by_column k Missing q e = let p = into_parts s n (row_with s n t value) _ e in inr (p.0, record { entity = k; missing = q; target = p.1; move = p.2 }, p.3)
-  by_column k (At j) q e =
+  by_column k None q e = let p = into_parts s n (row_with s n t value) _ e in inr (p.0, record { entity = k; missing = q; target = p.1; move = p.2 }, p.3)
+  by_column k (Some j) q e =
       let w = (none_holds (8 when any_held s.words ∷ []) (passed_all (8 when any_held s.words ∷ []) (granted (tt, overwritten s n j value)) e).0).0 in
       inl (j, record { entity = k; held = q; no_word = w }, value_of_lem (8 when any_held s.words ∷ []) (tt, overwritten s n j value) e)
 

@@ -7,6 +7,7 @@ use mathlib.Core.Bool.{Bool, true, false, not, ◌&&◌}
 use mathlib.Core.List.{List, [], ◌∷◌}
 use lib.Dec.{eqb}
 use lib.ListN.{length}
+use Rattle.std.specs.Prelude.{Option, Some, None}
 use Rattle.refusal.specs.Table.{◌when◌, ◌or_else◌, ◌otherwise◌}
 use Rattle.refusal.specs.Laws.{parts}
 use Rattle.handle.specs.Bits.{generation_in, number_in}
@@ -15,8 +16,6 @@ use Rattle.id_tables.specs.Head.{flushed}
 use Rattle.id_tables.specs.Ids.{live}
 use Rattle.decl.specs.Decl.{types_of}
 use Rattle.decl.specs.Lookup.{column_of}
-use Rattle.decl.specs.declared.Column.{Column}
-use Rattle.decl.specs.declared.Column.TheVariants.{At, Missing}
 use Rattle.column_entry.specs.Entry.{wrong_size}
 use Rattle.decl.specs.Places.{cell_start}
 use Rattle.cells.specs.Cell.{put}
@@ -33,9 +32,9 @@ use Rattle.store_moves.proofs.Refusing.{moved_there, into_lines}
 use Rattle.store_insert.specs.Insert.{overwritten, inserted_at, inserted, inserting}
 
 -- the store that an insert leaves
-abbrev pub inserted_store : Store → ℕ → ℕ → List ℕ → Column → Store
-inserted_store s n t value (At j) = overwritten s n j value
-inserted_store s n t value Missing = moved_there s n (grown_into s n t) (run_with s.decl s.rows (archetype_of s n) (row_of s n) t value)
+abbrev pub inserted_store : Store → ℕ → ℕ → List ℕ → Option ℕ → Store
+inserted_store s n t value (Some j) = overwritten s n j value
+inserted_store s n t value None = moved_there s n (grown_into s n t) (run_with s.decl s.rows (archetype_of s n) (row_of s n) t value)
 
 -- a component that is overwritten
 pub over_is : (s : Store) (n j : ℕ) (value : List ℕ)
@@ -43,16 +42,16 @@ pub over_is : (s : Store) (n j : ℕ) (value : List ℕ)
 unfolding overwritten
 over_is s n j value = refl
 
-at_lines : (s : Store) (n t : ℕ) (value : List ℕ) (c : Column) → moved_damaged s (archetype_of s n) (row_of s n) ≡ false
+at_lines : (s : Store) (n t : ℕ) (value : List ℕ) (c : Option ℕ) → moved_damaged s (archetype_of s n) (row_of s n) ≡ false
     → inserted_at s n t value c
     ≡ (14 when (is_missing c && is_none (grown_into s n t)) ∷ 8 when any_held s.words ∷ 4 when (is_missing c && is_full s (grown_into s n t)) ∷ [] otherwise (tt, inserted_store s n t value c))
 unfolding inserted_at ◌or_else◌
-at_lines s n t value (At j) w = held (any_held s.words) _
+at_lines s n t value (Some j) w = held (any_held s.words) _
   where
     held : {A : Type 0} (b : Bool) (v : A) → (8 when b ∷ [] otherwise v) ≡ (8 when b ∷ 4 when false ∷ [] otherwise v)
     held true v = refl
     held false v = refl
-at_lines s n t value Missing w = into_lines s n (grown_into s n t) _ w
+at_lines s n t value None w = into_lines s n (grown_into s n t) _ w
 
 pub inserting_lines : (s : Store) (bits t : ℕ) (value : List ℕ) → Entered s
     → (live s.ids (generation_in bits) (number_in bits) ≡ true → (owns s (number_in bits) ≡ true) × (moved_damaged s (archetype_of s (number_in bits)) (row_of s (number_in bits)) ≡ false))

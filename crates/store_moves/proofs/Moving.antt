@@ -7,8 +7,7 @@ use mathlib.Core.List.{List, [], ◌∷◌, ◌++◌}
 use mathlib.Core.Path.{◌≡◌, refl, sym, ap, ◌∙◌}
 use lib.ListN.{length, get_or, set, take, drop, length-append, take-append-drop}
 use lib.Seq.{get_or-set_other}
-use Rattle.handle.specs.Bits.{place_of}
-use Rattle.id_tables.specs.Ids.{ids_of, placed}
+use Rattle.id_tables.specs.Ids.{ids_of}
 use Rattle.decl.specs.Decl.{Decl, archetypes, rows_of, width_of, first_column, types_of, sizes_of, size_of}
 use Rattle.decl.specs.Places.{base_of, span_of}
 use Rattle.decl.specs.declared.Span.{Span}
@@ -30,8 +29,8 @@ use Rattle.column_entry.proofs.Keeping.{span_kept}
 use Rattle.store_steps.specs.Parts.{block_by, part_by}
 use Rattle.store_steps.specs.Seats.{Seats, seats_of, seated_rows, vacated_seats, filled}
 use Rattle.store_steps.proofs.Laws.{block_by_lem, sizes_by, seated_rows_lem}
-use Rattle.store_tables.specs.Store.{Store, store_of, with_ids}
-use Rattle.store_tables.specs.Rows.{archetype_of, row_of, seated, vacated}
+use Rattle.store_tables.specs.Store.{Store, store_of}
+use Rattle.store_tables.specs.Rows.{archetype_of, row_of, seated}
 use Rattle.store_tables.proofs.Places.{vacating}
 use Rattle.store_moves.specs.Lists.{put_in, taken_out}
 use Rattle.store_moves.specs.Target.{types_before}
@@ -251,10 +250,3 @@ module _ (s : Store) (n b : ℕ) (run : List ℕ) (row_in : row_of s n < count_o
       let y : indices ≡ set step.indices n (count_of s.rows b) = ap (λ (t : Seats). t.indices) v in
       let z : w ≡ step.rows = ap (λ (t : Seats). t.rows) v in
       rw (← vacant, x, y, z)
-
--- the rule in the words of a row that is taken, a row that leaves and a place that is set
-pub moved_is : (s : Store) (n b : ℕ) (run : List ℕ)
-    → moved_to s n b run
-    ≡ with_ids (vacated (seated s b n run) (archetype_of s n) (row_of s n)) (placed (vacated (seated s b n run) (archetype_of s n) (row_of s n)).ids n (place_of b (count_of s.rows b)))
-unfolding moved_to row_moved
-moved_is s n b run = refl

@@ -3,26 +3,23 @@
 use Prim.Native.Nat.{ℕ, ◌≤◌, ◌<◌}
 use native.Mathlib.Omega.{arith}
 use mathlib.Core.List.{List}
-use mathlib.Core.Option.{none, some}
+use Rattle.std.proofs.Math.Option.{none, some}
+use Rattle.std.specs.Prelude.{Option, Some, None}
 use mathlib.Core.Path.{◌≡◌, sym, ap, ◌∙◌}
 use Rattle.decl.specs.Decl.{archetypes, width_of, types_of}
 use Rattle.decl.specs.Places.{span_of}
 use Rattle.decl.specs.Lookup.{column_of, searched}
 use Rattle.decl.specs.Kept.{Declared}
-use Rattle.decl.specs.declared.Column.{Column}
 use Rattle.decl.specs.declared.Span.{Span}
 use Rattle.decl.proofs.Keeping.{types_length}
 use Rattle.decl.proofs.Looking.{found_in}
 use Rattle.decl.proofs.Search.{column_held}
-use Rattle.decl.specs.declared.Column.TheVariants as column
 use Rattle.store_steps.proofs.Laws.{types_by}
 use Rattle.store_steps.specs.Parts.{part_by}
 use Rattle.store_tables.specs.Store.{Store}
 use Rattle.store_tables.specs.Rows.{archetype_of, row_of}
 use Rattle.store_tables.specs.Kept.{Entered}
 use Rattle.store_tables.proofs.Places.{Owned}
-use Rattle.store_moves.specs.declared.target.Target.{Target}
-use Rattle.store_moves.specs.declared.target.Target.TheVariants.{At, Missing}
 use Rattle.store_moves.specs.declared.target.Change.{Change}
 use Rattle.store_moves.specs.Target.{changed, target_of, target_found}
 use Rattle.store_moves.specs.Kept.{Moving}
@@ -33,7 +30,7 @@ module _ (s : Store) (e : Entered s) (n : ℕ) (span : Span) (p : span ≡ span_
   abbrev declares : Declared s.decl
   declares = e.rows.tabled.kept.declared
 
-  pub column_in : (t j : ℕ) → column_of (types_of s.decl (archetype_of s n)) t ≡ column.At j → j < width_of s.decl (archetype_of s n)
+  pub column_in : (t j : ℕ) → column_of (types_of s.decl (archetype_of s n)) t ≡ Some j → j < width_of s.decl (archetype_of s n)
   column_in t j q = omega (arith, (column_held (types_of s.decl (archetype_of s n)) t j q).0, types_length s.decl declares.shaped (archetype_of s n))
 
   module _ (own : List ℕ) (o : own ≡ part_by s.decl.types span) where
@@ -41,21 +38,21 @@ module _ (s : Store) (e : Entered s) (n : ℕ) (span : Span) (p : span ≡ span_
     own_is = o ∙ types_by s.decl (archetype_of s n) span p
 
     -- the column of a type
-    pub column_found : (t : ℕ) (c : Column) → c ≡ searched own t → c ≡ column_of (types_of s.decl (archetype_of s n)) t
+    pub column_found : (t : ℕ) (c : Option ℕ) → c ≡ searched own t → c ≡ column_of (types_of s.decl (archetype_of s n)) t
     column_found t c q = q ∙ ap (λ (xs : List ℕ). searched xs t) own_is ∙ found_in s.decl declares (archetype_of s n) t
 
     -- the target
-    module _ (change : Change) (at : ℕ) (r : Target) (f : target_found r ≡ target_of s.decl (changed change at own)) where
+    module _ (change : Change) (at : ℕ) (r : Option ℕ) (f : target_found r ≡ target_of s.decl (changed change at own)) where
       found : target_found r ≡ target_of s.decl (changed change at (types_of s.decl (archetype_of s n)))
       found = f ∙ ap (λ (xs : List ℕ). target_of s.decl (changed change at xs)) own_is
 
-      pub found_none : r ≡ Missing → target_of s.decl (changed change at (types_of s.decl (archetype_of s n))) ≡ none
+      pub found_none : r ≡ None → target_of s.decl (changed change at (types_of s.decl (archetype_of s n))) ≡ none
       found_none q = sym found ∙ ap target_found q
 
-      pub found_some : (b : ℕ) → r ≡ At b → target_of s.decl (changed change at (types_of s.decl (archetype_of s n))) ≡ some b
+      pub found_some : (b : ℕ) → r ≡ Some b → target_of s.decl (changed change at (types_of s.decl (archetype_of s n))) ≡ some b
       found_some b q = sym found ∙ ap target_found q
 
-      pub found_small : (b : ℕ) → r ≡ At b → b ≤ 16
+      pub found_small : (b : ℕ) → r ≡ Some b → b ≤ 16
       found_small b q = omega (arith, (target_means s.decl _ b (found_some b q)).0, declares.shaped.few)
 
 -- a row that may move

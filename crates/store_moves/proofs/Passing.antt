@@ -60,7 +60,7 @@ module _ (s : Store) (n : ℕ) (run : List ℕ) where
 
 -- what `move_tested` saw
 pub move_told : (s : Store) (n b : ℕ) (span : Span) (place : Place) → span ≡ span_of s.decl (archetype_of s n) → place ≡ place_at s.ids n
-    → move_seen span.row s.ids.head.used s.decl.rows s.ids.archetypes s.ids.indices s.rows.numbers s.rows.counts s.words place.archetype place.index.0 b
+    → move_seen s span.row place.archetype place.index.0 b
     ≡ move_rules s n b
 unfolding move_seen move_rules
 move_told s n b span place p q = rw (p, q, moved_seen_lem s (archetype_of s n) (row_of s n))

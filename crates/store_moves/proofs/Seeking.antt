@@ -8,8 +8,8 @@ use mathlib.Core.List.{List, [], ◌∷◌}
 use mathlib.Core.Logic.{⊎_elim}
 use mathlib.Core.Option.{Option, none, some}
 use mathlib.Core.Path.{◌≡◌, refl, sym, ap, ◌∙◌}
-use lib.ListN.{length, get_or, take, drop, length-drop, drop_of_length-le}
-use lib.Seq.{take_all, take-nil, drop-cons}
+use lib.ListN.{length, take, drop, length-drop, drop_of_length-le}
+use lib.Seq.{take_all, take-nil}
 use borrow.Author.Tests.{lt-ltb, le-ltb}
 use Rattle.decl.specs.Lists.{same}
 use Rattle.decl.specs.Decl.{Decl, archetypes, width_of, first_column, types_of}
@@ -17,34 +17,21 @@ use Rattle.decl.proofs.Lists.{below_or_not, same_true}
 use Rattle.decl.proofs.Placing.{column_next}
 use Rattle.decl.proofs.Lending.{types_lent}
 use Rattle.decl.proofs.Starting.{column_first}
-use Rattle.store_moves.specs.declared.target.Change.{Change}
-use Rattle.store_moves.specs.declared.target.Change.TheVariants.{Added, Taken}
-use Rattle.store_moves.specs.Lists.{put_in, taken_out, first_below, or_next}
-use Rattle.store_moves.specs.Target.{types_before, changed, target_of}
+use Rattle.store_moves.specs.Lists.{first_below, or_next}
+use Rattle.store_moves.specs.Target.{types_before, target_of}
 
--- types before t: what is left of the list decides
-module _ (t : ℕ) (xs : List ℕ) (k : ℕ) where
-  pub before_stop : k < length xs → t ≤ get_or xs k 0 → types_before t (drop k xs) ≡ 0
-  unfolding types_before
-  before_stop h l = rw (drop-cons xs k 0) (simp (le-ltb (get_or xs k 0) t l))
+-- types before t, by the first that does not come before it
+pub before_none : (t : ℕ) → types_before t [] ≡ 0
+unfolding types_before
+before_none t = refl
 
-  pub before_next : k < length xs → get_or xs k 0 < t → types_before t (drop k xs) ≡ suc (types_before t (drop (k + 1) xs))
-  unfolding types_before
-  before_next h l = rw (drop-cons xs k 0, add-one) (simp (lt-ltb (get_or xs k 0) t l))
+pub before_hit : (t x : ℕ) (xs : List ℕ) → t ≤ x → types_before t (x ∷ xs) ≡ 0
+unfolding types_before
+before_hit t x xs h = simp (le-ltb x t h)
 
-  pub before_end : length xs ≤ k → types_before t (drop k xs) ≡ 0
-  unfolding types_before
-  before_end h = rw (drop_of_length-le xs h)
-
-  -- a step of the loop
-  pub before_here : k < length xs → t ≤ get_or xs k 0 → types_before t xs ≡ k + types_before t (drop k xs) → k ≡ types_before t xs
-  before_here h l e = omega (arith, before_stop h l)
-
-  pub before_more : k < length xs → get_or xs k 0 < t → types_before t xs ≡ k + types_before t (drop k xs) → types_before t xs ≡ k + 1 + types_before t (drop (k + 1) xs)
-  before_more h l e = omega (arith, before_next h l)
-
-  pub before_all : length xs ≤ k → types_before t xs ≡ k + types_before t (drop k xs) → k ≡ types_before t xs
-  before_all h e = omega (arith, before_end h)
+pub before_miss : (t x : ℕ) (xs : List ℕ) → x < t → types_before t (x ∷ xs) ≡ types_before t xs + 1
+unfolding types_before
+before_miss t x xs h = simp (lt-ltb x t h) (omega arith)
 
 -- the first at which a test holds
 module _ (p : ℕ → Bool) where
@@ -150,11 +137,3 @@ module _ (d : Decl) (wanted : List ℕ) where
 pub target_means : (d : Decl) (wanted : List ℕ) (b : ℕ) → target_of d wanted ≡ some b → (b < archetypes d) × (types_of d b ≡ wanted)
 unfolding target_of
 target_means d wanted b e = let m = first_means (is_of d wanted) (archetypes d) b e in (m.0, same_true (types_of d b) wanted m.1)
-
--- a change taken apart
-module _ (change : Change) (place : ℕ) (xs ys : List ℕ) (r : Bool) where
-  pub told_added : (x : ℕ) → change ≡ Added x → r ≡ same ys (put_in place (x ∷ []) xs) → r ≡ same ys (changed change place xs)
-  told_added x e q = rw e q
-
-  pub told_taken : change ≡ Taken → r ≡ same ys (taken_out place 1 xs) → r ≡ same ys (changed change place xs)
-  told_taken e q = rw e q

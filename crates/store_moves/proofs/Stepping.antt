@@ -1,13 +1,9 @@
 -- The steps of a move, over plain values: what each call left, put together.
 -- Assumes nothing.
-use Prim.Native.Nat.{ℕ, ◌-◌, ◌≤◌, ◌<◌, min}
-use native.Mathlib.Omega.{arith}
-use mathlib.Core.Logic.{⊎_elim}
-use mathlib.Core.Path.{◌≡◌, sym, ◌∙◌}
+use Prim.Native.Nat.{ℕ, ◌-◌, min}
+use mathlib.Core.Path.{◌≡◌, ◌∙◌}
 use mathlib.Core.List.{List}
-use lib.ListN.{length, get_or, set, take, drop, length-drop, drop_of_length-le}
-use lib.Seq.{take_all, take-length, drop-length}
-use Rattle.decl.proofs.Lists.{below_or_not}
+use lib.ListN.{length, get_or, set, take, drop}
 use Rattle.cells.specs.Cell.{written}
 use Rattle.cells.specs.Line.{next_of, past_of, run_line, line_told, transferred}
 use Rattle.cells.specs.declared.Line.{Line}
@@ -15,6 +11,7 @@ use Rattle.row_step.specs.declared.Block.{Block}
 use Rattle.row_step.specs.Tables.{Rows}
 use Rattle.store_steps.specs.Seats.{Seats, seats_of, seated_rows, vacated_seats}
 use Rattle.store_moves.specs.Steps.{joined, gathered, moved_seats}
+use Rattle.store_moves.proofs.Splicing.{front_lent, back_lent}
 
 pub joins : (out b : List ℕ) (row : Line) (before : List ℕ) (size : ℕ) (value : List ℕ) (rest : Line) (after : List ℕ)
     → (gap : Line) → gap ≡ line_told (past_of run_line before)
@@ -26,22 +23,10 @@ unfolding joined
 joins out b row before size value rest after gap g x p y q line l z r =
     r ∙ rw (l, q, p, g)
 
--- the parts of a row's sizes, as the code lends them
-front_lent : (l : List ℕ) (n m : ℕ) → m ≡ min n (length l) → take (m - 0) (drop 0 l) ≡ take n l
-front_lent l n m e =
-    ⊎_elim (λ (h : n < length l). let q : m - 0 ≡ n = omega arith in rw q)
-    (λ (h : length l ≤ n). let q : m - 0 ≡ length l = omega arith in rw q (take-length l ∙ sym (take_all n l h))) (below_or_not n (length l))
-
-back_lent : (l : List ℕ) (n m : ℕ) → m ≡ min n (length l) → take (length l - m) (drop m l) ≡ drop n l
-back_lent l n m e =
-    take_all (length l - m) (drop m l) (omega (arith, length-drop m l))
-    ∙ ⊎_elim (λ (h : n < length l). let q : m ≡ n = omega arith in rw q)
-    (λ (h : length l ≤ n). let q : m ≡ length l = omega arith in rw q (drop-length l ∙ sym (drop_of_length-le l h))) (below_or_not n (length l))
-
 pub gathers : (out b : List ℕ) (row : Line) (own : List ℕ) (column past size : ℕ) (value : List ℕ)
     → (middle last : ℕ) → middle ≡ min column (length own) → last ≡ min past (length own)
-    → (rest : Line) → rest ≡ line_told (past_of row (take (last - 0) (drop 0 own)))
-    → (z : List ℕ) → z ≡ joined out b row (take (middle - 0) (drop 0 own)) size value rest (take (length own - last) (drop last own))
+    → (rest : Line) → rest ≡ line_told (past_of row (take last own))
+    → (z : List ℕ) → z ≡ joined out b row (take middle own) size value rest (take (length own - last) (drop last own))
     → z ≡ gathered out b row own column past size value
 unfolding gathered
 gathers out b row own column past size value middle last m l rest r z j =

@@ -1,9 +1,8 @@
 -- The target of an insert or a remove as an archetype or none, for the lines that say when a call refuses.
-use Rattle.std.specs.Prelude.{ℕ, Bool, true, false, leb}
+use Rattle.std.specs.Prelude.{ℕ, Bool, true, false, leb, Some, None}
+use Rattle.std.specs.Prelude as prelude
 use Rattle.std.proofs.Math.Option.{Option, none, some}
 use Rattle.decl.specs.Decl.{rows_of, types_of}
-use Rattle.decl.specs.declared.Column.{Column}
-use Rattle.decl.specs.declared.Column.TheVariants.{At, Missing}
 use Rattle.row_step.specs.Tables.{count_of}
 use Rattle.store_tables.specs.Store.{Store}
 use Rattle.store_tables.specs.Rows.{archetype_of}
@@ -13,9 +12,9 @@ use Rattle.store_moves.specs.Target.{with_type, without_type, target_of}
 abbrev pub grown_into : Store → ℕ → ℕ → Option ℕ
 grown_into s n t = target_of s.decl (with_type t (types_of s.decl (archetype_of s n)))
 
-abbrev pub shrunk_into : Store → ℕ → Column → Option ℕ
-shrunk_into s n (At j) = target_of s.decl (without_type j (types_of s.decl (archetype_of s n)))
-shrunk_into s n Missing = none
+abbrev pub shrunk_into : Store → ℕ → prelude.Option ℕ → Option ℕ
+shrunk_into s n (Some j) = target_of s.decl (without_type j (types_of s.decl (archetype_of s n)))
+shrunk_into s n None = none
 
 -- no target
 abbrev pub is_none : Option ℕ → Bool

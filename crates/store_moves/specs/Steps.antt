@@ -8,14 +8,15 @@ use Rattle.cells.specs.declared.Line.{Line}
 use Rattle.row_step.specs.declared.Block.{Block}
 use Rattle.row_step.specs.Tables.{count_of}
 use Rattle.store_steps.specs.Seats.{Seats, seats_of, seated_rows, vacated_seats}
+use Rattle.store_tables.specs.Store.{Store}
 use Rattle.store_tables.specs.Seen.{moved_seen}
 
 -- a row at place (a, r) that is to move to archetype b, where the rows of a begin at `first`
-unfoldable pub move_seen : ℕ → ℕ → List ℕ → List ℕ → List ℕ → List ℕ → List ℕ → List ℕ → ℕ → ℕ → ℕ → List Rule
-move_seen first used rows archetypes indices numbers counts words a r b =
-    8 when any_held words
-    ∷ 4 when leb (get_or rows b 0) (get_or counts b 0)
-    ∷ 1 when moved_seen first used archetypes indices numbers counts a r
+unfoldable pub move_seen : Store → ℕ → ℕ → ℕ → ℕ → List Rule
+move_seen s first a r b =
+    8 when any_held s.words
+    ∷ 4 when leb (get_or s.decl.rows b 0) (get_or s.rows.counts b 0)
+    ∷ 1 when moved_seen first s.ids.head.used s.ids.archetypes s.ids.indices s.rows.numbers s.rows.counts a r
     ∷ []
 
 -- the line past a run of columns and a value of one more

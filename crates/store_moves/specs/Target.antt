@@ -1,10 +1,9 @@
 -- The target of an insert or a remove: the archetype whose types are the row's types with that type added or taken.
-use Rattle.std.specs.Prelude.{ℕ, suc, cond, List, [], ◌∷◌, ltb}
+use Rattle.std.specs.Prelude.{ℕ, suc, cond, List, [], ◌∷◌, ltb, Some, None}
+use Rattle.std.specs.Prelude as prelude
 use Rattle.std.proofs.Math.Option.{Option, none, some}
 use Rattle.decl.specs.Lists.{same}
 use Rattle.decl.specs.Decl.{Decl, archetypes, types_of}
-use Rattle.store_moves.specs.declared.target.Target.{Target}
-use Rattle.store_moves.specs.declared.target.Target.TheVariants.{At, Missing}
 use Rattle.store_moves.specs.declared.target.Change.{Change}
 use Rattle.store_moves.specs.declared.target.Change.TheVariants.{Added, Taken}
 use Rattle.store_moves.specs.Lists.{put_in, taken_out, first_below}
@@ -30,7 +29,7 @@ changed Taken at xs = taken_out at 1 xs
 unfoldable pub target_of : Decl → List ℕ → Option ℕ
 target_of d xs = first_below (archetypes d) (λ a. same (types_of d a) xs)
 
--- the document's value of each case
-abbrev pub target_found : Target → Option ℕ
-target_found (At a) = some a
-target_found Missing = none
+-- the document's value of what the code finds
+abbrev pub target_found : prelude.Option ℕ → Option ℕ
+target_found (Some a) = some a
+target_found None = none

@@ -6,5 +6,8 @@ mod target;
 mod tests;
 
 pub use steps::{gather, move_row};
-pub use target::{Change, Target, target_of, types_before};
+pub use target::{Change, target_of, types_before};
 pub use tests::move_tested;
+
+// The bytes of the widest row: 16 columns of 64 bytes.
+pub const ROOM: usize = 1024;

@@ -7,9 +7,9 @@ ghost use Rattle.store_steps.specs.Seats.{seats_of};
 ghost use Rattle.store_moves.specs.Steps.{joined, gathered, moved_seats};
 
 use cells::Line;
-use decl::Span;
+use decl::{Declaration, Span};
 use handle::{Number, Place, Row};
-use id_tables::{at, least};
+use id_tables::at;
 use store_steps::part_of;
 
 // Fills a buffer with the cells of a row's columns before, a value of `size` bytes, and the cells of the columns after.
@@ -44,28 +44,27 @@ fn gather_row(
 )
     ensures { out.new ≡ gathered out.old bytes.now row own.now column past size value.now }
 {
-    let middle = least(column, own.len());
-    let last = least(past, own.len());
-    let rest = row.past(&own[0..last]);
+    let middle = usize::min(column, own.len());
+    let last = usize::min(past, own.len());
+    let rest = row.past(&own[..last]);
     join(
         out,
         bytes,
         row,
-        &own[0..middle],
+        &own[..middle],
         size,
         value,
         rest,
-        &own[last..own.len()],
+        &own[last..],
     );
 }
 
 // Fills a buffer with the bytes of the row at a place, in column order, where a value of `size` bytes stands for the columns
-// from `column` to `past`.
+// from `column` to `past`. `size` stands beside `value`: a column's size has 32 bits, and a slice's length may have more.
 pub fn gather(
     out: &mut [u8],
+    declaration: &Declaration<'_>,
     bytes: &[u8],
-    rows: &[u32],
-    sizes: &[u32],
     span: Span,
     place: Place,
     column: usize,
@@ -73,23 +72,23 @@ pub fn gather(
     size: u32,
     value: &[u8],
 )
-    ensures { out.new ≡ gathered out.old bytes.now (line_of span.base (get_or rows.now place.archetype 0) place.index.0) (part_by sizes.now span) column past size value.now }
+    ensures { out.new ≡ gathered out.old bytes.now (line_of span.base (get_or declaration.now.rows.now place.archetype 0) place.index.0) (part_by declaration.now.sizes.now span) column past size value.now }
 {
     let index = place.index;
     let row = Line {
         start: span.base,
-        rows: at(rows, place.archetype as usize),
+        rows: at(declaration.rows, place.archetype as usize),
         row: index.0,
     };
-    let own = part_of(sizes, span);
+    let own = part_of(declaration.sizes, span);
     gather_row(out, bytes, row, own, column, past, size, value);
 }
 
 // Moves the row at a place, with its number and these bytes, to the first unused row of the target, and writes the places of
-// its number and of the one that falls into the hole. `here` and `there` are the archetypes' parts of the tables.
+// its number and of the one that falls into the hole. `here` and `there` are the archetypes' parts of the tables, which are
+// slices side by side, as the C interface lends them to the calls above.
 pub fn move_row(
-    rows: &[u32],
-    sizes: &[u32],
+    declaration: &Declaration<'_>,
     archetypes: &mut [u32],
     indices: &mut [u32],
     numbers: &mut [u32],
@@ -102,16 +101,26 @@ pub fn move_row(
     number: Number,
     run: &[u8],
 )
-    ensures { seats_of archetypes.new indices.new (tables_of numbers.new counts.new bytes.new) ≡ moved_seats (block_by rows.now here place.archetype) (part_by sizes.now here) (block_by rows.now there target) (part_by sizes.now there) (seats_of archetypes.old indices.old (tables_of numbers.old counts.old bytes.old)) place.archetype place.index.0 target number.0 run.now }
+    ensures { let rows = declaration.now.rows.now in
+        let sizes = declaration.now.sizes.now in
+        let lent = seats_of archetypes.old indices.old (tables_of numbers.old counts.old bytes.old) in
+        seats_of archetypes.new indices.new (tables_of numbers.new counts.new bytes.new) ≡ moved_seats (block_by rows here place.archetype) (part_by sizes here) (block_by rows there target) (part_by sizes there) lent place.archetype place.index.0 target number.0 run.now }
 {
     let b = target as usize;
     let next = Place {
         archetype: target,
         index: Row(at(counts, b)),
     };
-    store_steps::seat(rows, sizes, numbers, counts, bytes, there, b, number, run);
+    store_steps::seat(declaration, numbers, counts, bytes, there, b, number, run);
     store_steps::vacate(
-        rows, sizes, archetypes, indices, numbers, counts, bytes, here, place,
+        declaration,
+        archetypes,
+        indices,
+        numbers,
+        counts,
+        bytes,
+        here,
+        place,
     );
     id_tables::put_place(archetypes, indices, number, next);
 }

@@ -1,39 +1,30 @@
 -- Borrow and release of a column: the word that is asked for, and what its rule leaves.
 -- Assumes nothing.
-use Prim.{Unit}
-use Prim.Native.Nat.{ℕ, ◌+◌, ◌-◌, ◌≤◌, ◌<◌}
+use Prim.{tt}
+use Prim.Native.Nat.{ℕ, ◌+◌, ◌≤◌, ◌<◌}
 use native.Mathlib.Omega.{arith}
 use mathlib.Core.Path.{◌≡◌, refl, sym, ap, ◌∙◌}
 use mathlib.Core.Bool.{false}
-use mathlib.Core.List.{List, [], ◌∷◌}
+use mathlib.Core.List.{[], ◌∷◌}
 use lib.Dec.{leb}
-use lib.ListN.{length, get_or, take, drop}
+use lib.ListN.{length, get_or, set}
 use borrow.Author.Tests.{le-leb, lt-leb}
-use Rattle.refusal.specs.Table.{◌when◌, Answer, granted, refused, ◌or_else◌, left_of, Did}
-use Rattle.refusal.specs.Laws.{not_refused, passed_all, grant, refuse, via, determined}
-use Rattle.borrow_word.specs.Word.{answer_of}
-use Rattle.borrow_word.specs.declared.Borrowed.{Borrowed}
-use Rattle.borrow_word.specs.Slice.{at_word, storing}
-use Rattle.borrow_word.proofs.Laws.{within}
+use Rattle.refusal.specs.Table.{◌when◌, Answer, granted, refused, ◌or_else◌, Did}
+use Rattle.refusal.specs.Laws.{not_refused, passed_all, grant, refuse}
 use Rattle.decl.specs.Decl.{Decl, archetypes, first_column, types_of}
 use Rattle.decl.specs.Places.{span_of}
 use Rattle.decl.specs.Lookup.{column_of, searched}
-use Rattle.decl.specs.declared.Column.{Column}
-use Rattle.decl.specs.declared.Column.TheVariants.{At, Missing}
+use Rattle.std.specs.Prelude.{Option, Some, None}
 use Rattle.decl.specs.declared.Span.{Span}
 use Rattle.column_entry.specs.Entry.{span_in}
 use Rattle.column_entry.specs.Kept.{Kept}
 use Rattle.column_entry.proofs.Keeping.{span_kept}
+use Rattle.store_steps.specs.Parts.{part_by}
 use Rattle.store_tables.specs.Store.{Store, with_words, entry}
 use Rattle.store_tables.proofs.Entering.{entered}
 use Rattle.store_reads.specs.Component.{◌and_then◌}
-use Rattle.store_reads.specs.Steps.{unit_of}
 use Rattle.store_reads.specs.Words.{column_word, word_named, word_asked, word_stored, holding}
-use Rattle.store_reads.proofs.Cells.{word_in, types_fit, column_found, column_within_span}
-
--- an answer taken apart
-pub for_borrowed : (b l : Borrowed) → b ≡ l → {x : Answer (Unit {0})} → x ≡ unit_of (answer_of l) → x ≡ unit_of (answer_of b)
-for_borrowed b l e h = h ∙ sym (ap (λ (m : Borrowed). unit_of (answer_of m)) e)
+use Rattle.store_reads.proofs.Cells.{word_in, word_fits, column_named}
 
 -- the column that is named
 pub name_place : (d : Decl) (a t : ℕ) → archetypes d ≤ a → refused 6 ≡ word_named d a t
@@ -44,27 +35,24 @@ module _ (d : Decl) (a : ℕ) (k : Kept d) (declared : a < archetypes d) (s : Sp
   whole : s ≡ span_of d a
   whole = span ∙ span_kept d a k (omega arith)
 
-  pub name_fits : s.column + s.columns ≤ length d.types
-  name_fits = types_fit d a k s whole
-
-  module _ (t : ℕ) (c : Column) (found : c ≡ searched (take (s.column + s.columns - s.column) (drop s.column d.types)) t) where
-    pub name_missing : c ≡ Missing → refused 15 ≡ word_named d a t
+  module _ (t : ℕ) (c : Option ℕ) (found : c ≡ searched (part_by d.types s) t) where
+    pub name_missing : c ≡ None → refused 15 ≡ word_named d a t
     unfolding word_named ◌or_else◌
-    name_missing e = rw (lt-leb (archetypes d) a declared, ← column_found d a k s whole t c found, e)
+    name_missing e = rw (lt-leb (archetypes d) a declared, ← column_named d a k s whole t c found, e)
 
-    pub name_within : (j : ℕ) → c ≡ At j → j < s.columns
-    name_within j e = column_within_span d a k s whole t c found j e
+    pub name_within : (j : ℕ) → c ≡ Some j → s.column + j < length d.types
+    name_within j e = word_fits d a k s whole t c found j e
 
-    pub name_found : (j : ℕ) → c ≡ At j → granted (s.column + j) ≡ word_named d a t
+    pub name_found : (j : ℕ) → c ≡ Some j → granted (s.column + j) ≡ word_named d a t
     unfolding word_named ◌or_else◌
     name_found j e =
-        rw (lt-leb (archetypes d) a declared, ← column_found d a k s whole t c found, e) (ap (λ (x : Span). granted (x.column + j)) whole)
+        rw (lt-leb (archetypes d) a declared, ← column_named d a k s whole t c found, e) (ap (λ (x : Span). granted (x.column + j)) whole)
 
 -- its word is one of those that are lent
 module _ (d : Decl) (a t p : ℕ) (k : Kept d) where
-  by_column : (c : Column) → column_of (types_of d a) t ≡ c → granted p ≡ column_word d a c → p < length d.types
-  by_column (At j) e h = let q : p ≡ first_column d a + j = cc in rw q (word_in d a t j k e)
-  by_column Missing e h = absurd (not_refused h)
+  by_column : (c : Option ℕ) → column_of (types_of d a) t ≡ c → granted p ≡ column_word d a c → p < length d.types
+  by_column (Some j) e h = let q : p ≡ first_column d a + j = cc in rw q (word_in d a t j k e)
+  by_column None e h = absurd (not_refused h)
 
   named_in : granted p ≡ word_named d a t → p < length d.types
   unfolding word_named
@@ -89,12 +77,8 @@ module _ (rule : ℕ → Answer ℕ) (s : Store) (a t : ℕ) where
     unfolding holding
     holding_at = sym (ap (λ (k : Answer ℕ). k and_then (λ at. word_stored s at (rule (get_or s.words at 0)))) e)
 
-    by_word : (x : Answer ℕ) → Did (word_stored s p x) s (unit_of x) (with_words s (left_of (storing s.words p x) s.words))
-    by_word (granted w) = grant refl
-    by_word (refused m) = refuse refl
+    pub hold_stops : {m : ℕ} → refused m ≡ rule (get_or s.words p 0) → Did (holding rule s a t) s (refused m) s
+    hold_stops h = refuse (holding_at ∙ sym (ap (word_stored s p) h))
 
-    pub hold_did : (x : Answer ℕ) (left : List ℕ) → Did (at_word rule s.words p) s.words x left → {y : Answer (Unit {0})} → y ≡ unit_of x
-        → Did (holding rule s a t) s y (with_words s left)
-    hold_did x left d u =
-        let w = determined d (within rule s.words p (rule (get_or s.words p 0)) (asked_in s a t p e) refl) in
-        via holding_at (rw (u, w.0, w.1) (by_word (rule (get_or s.words p 0))))
+    pub hold_stores : {w : ℕ} → granted w ≡ rule (get_or s.words p 0) → Did (holding rule s a t) s (granted tt) (with_words s (set s.words p w))
+    hold_stores h = grant (holding_at ∙ sym (ap (word_stored s p) h))

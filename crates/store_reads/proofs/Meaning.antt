@@ -22,7 +22,7 @@ use Rattle.id_tables.proofs.Laws.{new_not_live}
 use Rattle.decl.specs.Decl.{Decl, archetypes, rows_of, first_column, types_of, size_of}
 use Rattle.decl.specs.Places.{cell_start}
 use Rattle.decl.specs.Lookup.{column_of}
-use Rattle.decl.specs.declared.Column.TheVariants.{At, Missing}
+use Rattle.std.specs.Prelude.{Some, None}
 use Rattle.decl.specs.declared.Span.{Span}
 use Rattle.decl.proofs.Lists.{below_or_not}
 use Rattle.decl.proofs.Placing.{columns_apart, archetypes_apart, cells_apart, cell_from, cell_within}
@@ -47,7 +47,7 @@ use Rattle.store_reads.proofs.Holding.{holding_at}
 
 module _ (s : Store) (t g n : ℕ) where
   -- a live entity that holds the type
-  pub held : (j : ℕ) → live s.ids g n ≡ true → owns s n ≡ true → column_of (types_of s.decl (archetype_of s n)) t ≡ At j
+  pub held : (j : ℕ) → live s.ids g n ≡ true → owns s n ≡ true → column_of (types_of s.decl (archetype_of s n)) t ≡ Some j
       → Held s t g n (cell_in s.decl (archetype_of s n) (row_of s n) j)
   held j l o e = record { alive = l; own = o; column = j; at = e; cell = refl }
 
@@ -61,7 +61,7 @@ module _ (s : Store) (t g n : ℕ) where
   write_held value c h w = ap (λ (k : Answer Cell). k and_then cell_written s value) (component_at_lem s t g n c h) ∙ rw (eq-eqb _ _ w)
 
   -- 15: a live entity of an archetype without the type, and a reserved new number
-  pub component_missing : live s.ids g n ≡ true → owns s n ≡ true → column_of (types_of s.decl (archetype_of s n)) t ≡ Missing
+  pub component_missing : live s.ids g n ≡ true → owns s n ≡ true → column_of (types_of s.decl (archetype_of s n)) t ≡ None
       → component_at s t g n ≡ refused 15
   unfolding component_at place_rules ◌or_else◌
   component_missing l o e = rw (l, o, e)
@@ -171,7 +171,7 @@ module _ (s : Store) (e : Entered s) (b : List ℕ) (long : length b ≡ length 
   still_read t g n = ap (λ (k : Answer Cell). k and_then cell_read s.words) (still_there t g n)
 
 -- The word of a column that is declared, and what its rule leaves of it.
-module _ (s : Store) (a t j : ℕ) (e : granted tt ≡ passing (entry s false)) (declared : a < archetypes s.decl) (at : column_of (types_of s.decl a) t ≡ At j) where
+module _ (s : Store) (a t j : ℕ) (e : granted tt ≡ passing (entry s false)) (declared : a < archetypes s.decl) (at : column_of (types_of s.decl a) t ≡ Some j) where
   pub asked_at : word_asked s a t ≡ granted (first_column s.decl a + j)
   unfolding word_asked word_named ◌or_else◌
   asked_at = past (entry s false) (word_named s.decl a t) e ∙ rw (lt-leb (archetypes s.decl) a declared, at)

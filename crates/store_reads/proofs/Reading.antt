@@ -20,17 +20,10 @@ use Rattle.store_tables.specs.Kept.{Entered}
 use Rattle.store_tables.proofs.Entering.{entered}
 use Rattle.store_tables.proofs.Places.{owns_means}
 use Rattle.store_reads.specs.declared.component.Cell.{Cell}
-use Rattle.store_reads.specs.declared.component.Component.{Component}
-use Rattle.store_reads.specs.declared.component.Placed.{Placed}
-use Rattle.store_reads.specs.Component.{◌and_then◌, component_at, component_of}
-use Rattle.store_reads.specs.Steps.{PlacedAs, component_for}
+use Rattle.store_reads.specs.Component.{◌and_then◌, component_at}
 use Rattle.store_reads.specs.Read.{cell_read, read_at, reading, bytes_at}
 use Rattle.store_reads.proofs.Cells.{cell_fits}
-use Rattle.store_reads.proofs.Locating.{component_told, Held, component_parts}
-
--- an answer taken apart
-pub through : {A : Type 0} {x : Answer A} (rest : Cell → Answer A) (k l : Component) → k ≡ l → x ≡ (component_of l and_then rest) → x ≡ (component_of k and_then rest)
-through rest k l e h = h ∙ sym (ap (λ (m : Component). component_of m and_then rest) e)
+use Rattle.store_reads.proofs.Locating.{Held, component_parts}
 
 -- the word of a cell
 module _ (words : List ℕ) (c : Cell) (w : ℕ) (word : w ≡ get_or words c.word 0) where
@@ -43,10 +36,9 @@ module _ (words : List ℕ) (c : Cell) (w : ℕ) (word : w ≡ get_or words c.wo
   cell_free h = rw (← word, ne_eqb (w / 2 ^ 63) 1 h)
 
 -- the rule, from the steps
-pub read_told : (s : Store) → Entered s → (g n t : ℕ) (p : Placed) → PlacedAs s.decl s.ids s.rows.numbers s.rows.counts g n p
-    → (k : Answer Cell) → k ≡ component_for s.decl t p → {x : Answer (ℕ × ℕ)} → x ≡ (k and_then cell_read s.words) → x ≡ read_at s t g n
+pub read_told : (s : Store) (t g n : ℕ) {k : Answer Cell} → component_at s t g n ≡ k → {x : Answer (ℕ × ℕ)} → x ≡ (k and_then cell_read s.words) → x ≡ read_at s t g n
 unfolding read_at
-read_told s e g n t p f k q h = h ∙ ap (λ (m : Answer Cell). m and_then cell_read s.words) (q ∙ component_told s e g n t p f)
+read_told s t g n q h = h ∙ sym (ap (λ (m : Answer Cell). m and_then cell_read s.words) q)
 
 -- what is granted is the cell of a component that is held
 module _ (s : Store) (t g n : ℕ) where
@@ -75,9 +67,6 @@ read_fits s bits t start size e =
     omega (arith, f, ap (λ (x : ℕ × ℕ). x.0) q.2, ap (λ (x : ℕ × ℕ). x.1) q.2)
 
 -- the twin
-pub bytes_none : (b : List ℕ) (a : Answer (ℕ × ℕ)) {m : ℕ} → refused m ≡ a → [] ≡ bytes_at b a
-bytes_none b a e = ap (bytes_at b) e
-
 pub bytes_some : (s : Store) (bits t start size : ℕ) (x : List ℕ) → granted (start, size) ≡ reading s bits t → x ≡ part_at s.rows.bytes start size
     → x ≡ bytes_at s.rows.bytes (reading s bits t)
 bytes_some s bits t start size x e h =

@@ -15,8 +15,7 @@ use Rattle.id_tables.specs.Ids.{live}
 use Rattle.id_tables.specs.Lookup.{reserved_new}
 use Rattle.decl.specs.Decl.{Decl, archetypes, first_column, types_of}
 use Rattle.decl.specs.Lookup.{column_of}
-use Rattle.decl.specs.declared.Column.{Column}
-use Rattle.decl.specs.declared.Column.TheVariants.{At, Missing}
+use Rattle.std.specs.Prelude.{Option, Some, None}
 use Rattle.cells.specs.Cell.{put}
 use Rattle.row_step.specs.Tables.{tables_of}
 use Rattle.column_entry.specs.Entry.{wrong_size}
@@ -36,12 +35,12 @@ differ : {A : Type 0} → false ≡ true → A
 differ q = absurd (let y : ◌≡◌ {A = ℕ} 0 1 = cc in omega arith)
 
 -- the component, by its own lines, and what follows it
-at_column : {A : Type 0} (d : Decl) (a r : ℕ) (l w z : Bool) (c : Column) (f : Cell → Answer A) → (l ≡ true → w ≡ true)
+at_column : {A : Type 0} (d : Decl) (a r : ℕ) (l w z : Bool) (c : Option ℕ) (f : Cell → Answer A) → (l ≡ true → w ≡ true)
     → ((2 when not (l || z) ∷ 1 when (l && not w) ∷ 15 when not l ∷ [] or_else column_cell d a r c) and_then f)
     ≡ (2 when not (l || z) ∷ 15 when (not l || is_missing c) ∷ [] or_else (column_cell d a r c and_then f))
 unfolding ◌or_else◌
-at_column d a r true true z (At j) f h = refl
-at_column d a r true true z Missing f h = refl
+at_column d a r true true z (Some j) f h = refl
+at_column d a r true true z None f h = refl
 at_column d a r true false z c f h = differ (h refl)
 at_column d a r false w true c f h = refl
 at_column d a r false w false c f h = refl
@@ -55,15 +54,15 @@ missing false false true l u v = refl
 missing false false false true u v = refl
 missing false false false false u v = refl
 
-read_lines : (d : Decl) (words : List ℕ) (a r : ℕ) (b y z : Bool) (c : Column)
+read_lines : (d : Decl) (words : List ℕ) (a r : ℕ) (b y z : Bool) (c : Option ℕ)
     → (13 when false ∷ 5 when b ∷ [] or_else (2 when y ∷ 15 when (z || is_missing c) ∷ [] or_else (column_cell d a r c and_then cell_read words)))
     ≡ (5 when b ∷ 2 when y ∷ 15 when (z || is_missing c) ∷ 7 when is_unique (word_in d words a c) ∷ [] otherwise part_in d a r c)
 unfolding ◌or_else◌ cell_read
 read_lines d words a r true y z c = refl
 read_lines d words a r false true z c = refl
 read_lines d words a r false false true c = refl
-read_lines d words a r false false false (At j) = refl
-read_lines d words a r false false false Missing = refl
+read_lines d words a r false false false (Some j) = refl
+read_lines d words a r false false false None = refl
 
 write_lines : {A : Type 0} (x b y z u : Bool) (v : A)
     → (13 when x ∷ 5 when b ∷ [] or_else (2 when y ∷ 15 when z ∷ [] or_else (8 when u ∷ [] otherwise v)))
@@ -82,7 +81,7 @@ module _ (s : Store) (e : Entered s) (bits t : ℕ) (own : live s.ids (generatio
   abbrev n : ℕ
   n = number_in bits
 
-  abbrev col : Column
+  abbrev col : Option ℕ
   col = column_of (types_of s.decl (archetype_of s n)) t
 
   pub reading_lines : reading s bits t
@@ -99,16 +98,16 @@ module _ (s : Store) (e : Entered s) (bits t : ℕ) (own : live s.ids (generatio
       (at_column s.decl (archetype_of s n) (row_of s n) (live s.ids g n) (owns s n) (reserved_new s.ids.head g n) col (cell_read s.words) own)
       ∙ read_lines s.decl s.words (archetype_of s n) (row_of s n) (eqb g 0) (not (live s.ids g n || reserved_new s.ids.head g n)) (not (live s.ids g n)) col
 
-  by_column : (value : List ℕ) (c : Column) → (13 when wrong_size s.decl.types s.decl.sizes t (length value) ∷ 5 when eqb g 0 ∷ [] or_else
+  by_column : (value : List ℕ) (c : Option ℕ) → (13 when wrong_size s.decl.types s.decl.sizes t (length value) ∷ 5 when eqb g 0 ∷ [] or_else
       (2 when not (live s.ids g n || reserved_new s.ids.head g n) ∷ 15 when (not (live s.ids g n) || is_missing c) ∷ [] or_else (column_cell s.decl (archetype_of s n) (row_of s n) c and_then cell_written s value)))
       ≡ (13 when wrong_size s.decl.types s.decl.sizes t (length value) ∷ 5 when eqb g 0
       ∷ 2 when not (live s.ids g n || reserved_new s.ids.head g n) ∷ 15 when (not (live s.ids g n) || is_missing c)
       ∷ 8 when not (eqb (word_in s.decl s.words (archetype_of s n) c) 0) ∷ []
       otherwise (tt, with_rows s (tables_of s.rows.numbers s.rows.counts (put s.rows.bytes (part_in s.decl (archetype_of s n) (row_of s n) c).0 value))))
   unfolding cell_written
-  by_column value (At j) =
+  by_column value (Some j) =
       write_lines (wrong_size s.decl.types s.decl.sizes t (length value)) (eqb g 0) (not (live s.ids g n || reserved_new s.ids.head g n)) (not (live s.ids g n) || false) (not (eqb (get_or s.words (first_column s.decl (archetype_of s n) + j) 0) 0)) _
-  by_column value Missing =
+  by_column value None =
       missing (wrong_size s.decl.types s.decl.sizes t (length value)) (eqb g 0) (not (live s.ids g n || reserved_new s.ids.head g n)) (live s.ids g n) (not (eqb 0 0)) _
 
   pub writing_lines : (value : List ℕ) → writing s bits t value
@@ -138,9 +137,9 @@ holding_lines rule s a t e =
     ap (λ (k : Answer ℕ). k and_then (λ at. word_stored s at (rule (get_or s.words at 0)))) (entry_line s e false (6 when leb (archetypes s.decl) a ∷ [] or_else column_word s.decl a (column_of (types_of s.decl a) t)))
     ∙ by (leb (archetypes s.decl) a) (column_of (types_of s.decl a) t)
   where
-    by : (b : Bool) (c : Column)
+    by : (b : Bool) (c : Option ℕ)
         → ((13 when false ∷ [] or_else (6 when b ∷ [] or_else column_word s.decl a c)) and_then (λ at. word_stored s at (rule (get_or s.words at 0))))
         ≡ (6 when b ∷ 15 when is_missing c ∷ [] or_else word_stored s (place_in s.decl a c) (rule (word_in s.decl s.words a c)))
     by true c = refl
-    by false (At j) = refl
-    by false Missing = refl
+    by false (Some j) = refl
+    by false None = refl

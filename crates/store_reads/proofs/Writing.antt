@@ -12,13 +12,12 @@ use borrow.Author.Tests.{eq-eqb, ne_eqb}
 use Rattle.refusal.specs.Table.{◌when◌, Answer, granted, refused, ◌or_else◌, ◌otherwise◌, passing, Did}
 use Rattle.refusal.specs.Laws.{grant, refuse, via}
 use Rattle.refusal.specs.declared.Refusal.{Refusal}
-use Rattle.handle.specs.Bits.{generation_in, number_in, answer_of, from_bits}
+use Rattle.handle.specs.Bits.{generation_in, number_in, handle_of, from_bits}
 use Rattle.handle.specs.OnBits.{on_first, on_zero, on_good}
-use Rattle.handle.specs.declared.Bits.{Bits}
-use Rattle.handle.specs.declared.Bits.TheVariants.{Good, Refused}
+use Rattle.std.specs.Prelude.{Result, Ok, Err}
 use Rattle.handle.specs.declared.Handle.{Handle}
 use Rattle.decl.specs.Decl.{first_column, types_of}
-use Rattle.decl.specs.declared.Column.TheVariants.{At}
+use Rattle.std.specs.Prelude.{Some}
 use Rattle.decl.proofs.Keeping.{type_at, size_at}
 use Rattle.decl.proofs.Search.{Stands, column_stands}
 use Rattle.cells.specs.Cell.{put, written}
@@ -30,20 +29,13 @@ use Rattle.store_tables.specs.Rows.{archetype_of}
 use Rattle.store_tables.specs.Kept.{Entered}
 use Rattle.store_tables.proofs.Entering.{entered, entered_right}
 use Rattle.store_reads.specs.declared.component.Cell.{Cell}
-use Rattle.store_reads.specs.declared.component.Component.{Component}
-use Rattle.store_reads.specs.declared.component.Placed.{Placed}
-use Rattle.store_reads.specs.Component.{◌and_then◌, component_at, component_of}
-use Rattle.store_reads.specs.Steps.{PlacedAs, component_for, cell_stored}
+use Rattle.store_reads.specs.Component.{◌and_then◌, component_at}
+use Rattle.store_reads.specs.Steps.{cell_stored}
 use Rattle.store_reads.specs.Write.{cell_written, write_at, writing}
 use Rattle.store_reads.proofs.Cells.{column_in, word_in}
 use Rattle.store_reads.proofs.Sizes.{size_right}
-use Rattle.store_reads.proofs.Locating.{component_told, Held, component_parts}
+use Rattle.store_reads.proofs.Locating.{Held, component_parts}
 use Rattle.store_reads.proofs.Reading.{held_fits}
-
--- an answer taken apart
-pub did_through : {A S : Type 0} {lent left : S} {a : Answer A} (rest : Cell → Answer (A × S)) (k l : Component) → k ≡ l
-    → Did (component_of l and_then rest) lent a left → Did (component_of k and_then rest) lent a left
-did_through rest k l e d = via (ap (λ (m : Component). component_of m and_then rest) e) d
 
 -- the word of a cell
 module _ (words bytes value : List ℕ) (c : Cell) (w : ℕ) (word : w ≡ get_or words c.word 0) where
@@ -61,7 +53,7 @@ module _ (s : Store) (bits t : ℕ) (value : List ℕ) (short : Bool) (size : sh
   unfolding writing
   write_first e = on_first _ _ _ (e ∙ ap (λ (b : Bool). passing (entry s b)) size)
 
-  pub write_zero : (r : Bits) (x : Refusal) → granted tt ≡ passing (entry s short) → answer_of r ≡ from_bits bits → r ≡ Refused x → writing s bits t value ≡ refused 5
+  pub write_zero : (r : Result Handle Refusal) (x : Refusal) → granted tt ≡ passing (entry s short) → handle_of r ≡ from_bits bits → r ≡ Err x → writing s bits t value ≡ refused 5
   unfolding writing
   write_zero r x e a p = on_zero _ _ _ r x (e ∙ ap (λ (b : Bool). passing (entry s b)) size) a p
 
@@ -85,7 +77,7 @@ module _ (s : Store) (e : Entered s) (t g n : ℕ) (value : List ℕ) (right : w
       let a : ℕ = archetype_of s n in
       let j : ℕ = h.column in
       let i = column_in s.decl a t j k h.at in
-      let x : Stands (types_of s.decl a) t (At j) = rw h.at at (column_stands (types_of s.decl a) t) in
+      let x : Stands (types_of s.decl a) t (Some j) = rw h.at at (column_stands (types_of s.decl a) t) in
       ap (λ (o : Cell). o.size) h.cell ∙ size_at s.decl a j i
       ∙ size_right s.decl k.declared t (length value) (first_column s.decl a + j) (word_in s.decl a t j k h.at)
       (sym (type_at s.decl a j i) ∙ x.1) right
@@ -110,23 +102,20 @@ module _ (s : Store) (e : Entered s) (t g n : ℕ) (value : List ℕ) (right : w
   by_component (granted c) q = stored_is c (component_parts s t g n c (sym q))
   by_component (refused m) q = refl
 
-  pub write_told : (p : Placed) → PlacedAs s.decl s.ids s.rows.numbers s.rows.counts g n p → (k : Answer Cell) → k ≡ component_for s.decl t p
-      → {a : Answer (Unit {0})} {left : List ℕ} → Did (k and_then cell_stored s.words s.rows.bytes value) s.rows.bytes a left
-      → Did (write_at s t value g n) s a (with_bytes left)
+  pub write_told : {k : Answer Cell} → component_at s t g n ≡ k → {a : Answer (Unit {0})} {left : List ℕ}
+      → Did (k and_then cell_stored s.words s.rows.bytes value) s.rows.bytes a left → Did (write_at s t value g n) s a (with_bytes left)
   unfolding write_at
-  write_told p f k q d =
-      let m : k ≡ component_at s t g n = q ∙ component_told s e g n t p f in
-      via (by_component (component_at s t g n) refl ∙ sym (ap (λ (x : Answer Cell). over with_bytes (x and_then cell_stored s.words s.rows.bytes value)) m))
+  write_told {k} q d =
+      via (by_component (component_at s t g n) refl ∙ ap (λ (x : Answer Cell). over with_bytes (x and_then cell_stored s.words s.rows.bytes value)) q)
       (lift with_bytes (k and_then cell_stored s.words s.rows.bytes value) d)
 
 -- past the first tests and the bits
-pub write_good : (s : Store) (bits t : ℕ) (value : List ℕ) (short : Bool) → short ≡ wrong_size s.decl.types s.decl.sizes t (length value)
-    → granted tt ≡ passing (entry s short) → (r : Bits) (h : Handle) → answer_of r ≡ from_bits bits → r ≡ Good h
-    → (p : Placed) → PlacedAs s.decl s.ids s.rows.numbers s.rows.counts (generation_in h.0) (number_in h.0) p
-    → (k : Answer Cell) → k ≡ component_for s.decl t p → {a : Answer (Unit {0})} {left : List ℕ}
-    → Did (k and_then cell_stored s.words s.rows.bytes value) s.rows.bytes a left
-    → Did (writing s bits t value) s a (with_rows s (tables_of s.rows.numbers s.rows.counts left))
-unfolding writing
-write_good s bits t value short size e r h a o p f k q d =
-    via (on_good _ _ (write_at s t value) r h (e ∙ ap (λ (b : Bool). passing (entry s b)) size) a o)
-    (write_told s (entered s short e) t (generation_in h.0) (number_in h.0) value (sym size ∙ entered_right s short e) p f k q d)
+module _ (s : Store) (bits t : ℕ) (value : List ℕ) (short : Bool) (size : short ≡ wrong_size s.decl.types s.decl.sizes t (length value))
+    (e : granted tt ≡ passing (entry s short)) (r : Result Handle Refusal) (h : Handle) (a : handle_of r ≡ from_bits bits) (o : r ≡ Ok h) where
+  pub write_good : {k : Answer Cell} → component_at s t (generation_in h.0) (number_in h.0) ≡ k → {x : Answer (Unit {0})} {left : List ℕ}
+      → Did (k and_then cell_stored s.words s.rows.bytes value) s.rows.bytes x left
+      → Did (writing s bits t value) s x (with_rows s (tables_of s.rows.numbers s.rows.counts left))
+  unfolding writing
+  write_good q d =
+      via (on_good _ _ (write_at s t value) r h (e ∙ ap (λ (b : Bool). passing (entry s b)) size) a o)
+      (write_told s (entered s short e) t (generation_in h.0) (number_in h.0) value (sym size ∙ entered_right s short e) q d)

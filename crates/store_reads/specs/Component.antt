@@ -1,19 +1,14 @@
 -- The component of a handle: 2, 1 for a live handle's own place, 15; else its word and its bytes.
-use Rattle.std.specs.Prelude.{ℕ, ◌+◌, not, ◌&&◌, ◌||◌, List, [], ◌∷◌, ◌++◌}
-use Rattle.refusal.specs.Number.{number_of}
+use Rattle.std.specs.Prelude.{ℕ, ◌+◌, not, ◌&&◌, ◌||◌, List, [], ◌∷◌, ◌++◌, Option, Some, None}
 use Rattle.refusal.specs.Table.{Rule, ◌when◌, Answer, granted, refused, ◌or_else◌}
 use Rattle.id_tables.specs.Ids.{live}
 use Rattle.id_tables.specs.Lookup.{reserved_new}
 use Rattle.decl.specs.Decl.{Decl, first_column, types_of, size_of}
 use Rattle.decl.specs.Places.{cell_start}
 use Rattle.decl.specs.Lookup.{column_of}
-use Rattle.decl.specs.declared.Column.{Column}
-use Rattle.decl.specs.declared.Column.TheVariants.{At, Missing}
 use Rattle.store_tables.specs.Store.{Store}
 use Rattle.store_tables.specs.Rows.{archetype_of, row_of, owns}
 use Rattle.store_reads.specs.declared.component.Cell.{Cell}
-use Rattle.store_reads.specs.declared.component.Component.{Component}
-use Rattle.store_reads.specs.declared.component.Component.TheVariants as component
 
 infixl 21 ◌and_then◌
 -- what follows a granted value; a refusal stays
@@ -32,9 +27,9 @@ place_rules s generation n =
 abbrev pub cell_in : Decl → ℕ → ℕ → ℕ → Cell
 cell_in d a r j = record { word = first_column d a + j; start = cell_start d a j r; size = size_of d a j }
 
-abbrev pub column_cell : Decl → ℕ → ℕ → Column → Answer Cell
-column_cell d a r (At j) = granted (cell_in d a r j)
-column_cell d a r Missing = refused 15
+abbrev pub column_cell : Decl → ℕ → ℕ → Option ℕ → Answer Cell
+column_cell d a r (Some j) = granted (cell_in d a r j)
+column_cell d a r None = refused 15
 
 -- 15: a reserved handle, or a type that is not in the entity's archetype
 unfoldable pub component_at : Store → ℕ → ℕ → ℕ → Answer Cell
@@ -42,8 +37,3 @@ component_at s t generation n =
     place_rules s generation n
     ++ 15 when not (live s.ids generation n) ∷ []
     or_else column_cell s.decl (archetype_of s n) (row_of s n) (column_of (types_of s.decl (archetype_of s n)) t)
-
--- the document's number and values of each case
-abbrev pub component_of : Component → Answer Cell
-component_of (component.At cell) = granted cell
-component_of (component.Refused r) = refused (number_of r)

@@ -1,14 +1,11 @@
 -- Read: where a component's bytes are, and how many; its twin, those bytes.
 use Rattle.std.specs.Prelude.{ℕ, false, List, [], ◌∷◌, get_or}
-use Rattle.refusal.specs.Number.{number_of}
 use Rattle.refusal.specs.Table.{◌when◌, Answer, granted, refused, ◌otherwise◌}
 use Rattle.handle.specs.OnBits.{on_bits}
 use Rattle.borrow_word.specs.Word.{is_unique}
 use Rattle.cells.specs.Cell.{cell}
 use Rattle.store_tables.specs.Store.{Store, entry}
 use Rattle.store_reads.specs.declared.component.Cell.{Cell}
-use Rattle.store_reads.specs.declared.reads.Part.{Part}
-use Rattle.store_reads.specs.declared.reads.Part.TheVariants as part
 use Rattle.store_reads.specs.Component.{◌and_then◌, component_at}
 
 -- 7: its column's word has the top bit set
@@ -25,8 +22,3 @@ reading s bits t = on_bits (entry s false) bits (read_at s t)
 abbrev pub bytes_at : List ℕ → Answer (ℕ × ℕ) → List ℕ
 bytes_at bytes (granted p) = cell bytes p.0 p.1
 bytes_at bytes (refused n) = []
-
--- the document's number and values of each case
-abbrev pub part_of : Part → Answer (ℕ × ℕ)
-part_of (part.At start size) = granted (start, size)
-part_of (part.Refused r) = refused (number_of r)

@@ -8,6 +8,6 @@ mod words;
 mod writes;
 
 pub use lookups::{contains, get, len, resolve_unknown_gen};
-pub use reads::{Part, read, read_bytes};
+pub use reads::{read, read_bytes};
 pub use words::{borrow, borrow_mut, release, release_mut};
 pub use writes::write;

@@ -5,15 +5,14 @@ use Prim.Native.Nat.{ℕ}
 use mathlib.Core.Path.{◌≡◌, refl, ◌∙◌}
 use mathlib.Core.Bool.{false}
 use mathlib.Core.List.{List}
-use mathlib.Core.Option.{some}
+use Rattle.std.proofs.Math.Option.{some}
+use Rattle.std.specs.Prelude.{Option, Some, None}
 use Rattle.refusal.specs.Table.{granted, passing}
 use Rattle.refusal.specs.Laws.{not_refused, passed_all, past}
 use Rattle.handle.specs.Bits.{generation_in, number_in}
 use Rattle.handle.specs.OnBits.{on_rest, on_granted}
 use Rattle.decl.specs.Decl.{types_of}
 use Rattle.decl.specs.Lookup.{column_of}
-use Rattle.decl.specs.declared.Column.{Column}
-use Rattle.decl.specs.declared.Column.TheVariants.{At, Missing}
 use Rattle.store_tables.specs.Store.{Store, entry}
 use Rattle.store_tables.specs.Rows.{archetype_of, row_of}
 use Rattle.store_tables.specs.Entities.{entity_rules}
@@ -30,7 +29,7 @@ row_without s n j = run_without s.decl s.rows (archetype_of s n) (row_of s n) j
 -- what passing the tests of a remove gives, beyond the first: the component's column, and the target
 pub record RemoveOk (s : Store) (t g n j b : ℕ) : Type 0 where
   pub entity : EntityOk s g n
-  pub held : column_of (types_of s.decl (archetype_of s n)) t ≡ At j
+  pub held : column_of (types_of s.decl (archetype_of s n)) t ≡ Some j
   pub target : target_of s.decl (without_type j (types_of s.decl (archetype_of s n))) ≡ some b
   pub move : MoveOk s n b
 
@@ -42,11 +41,11 @@ module _ (s : Store) (t g n : ℕ) where
       past (entity_rules s g n) _ (ok_entity s g n k.entity)
       ∙ rw (k.held, k.target) (into_granted s n (row_without s n j) b (ok_move s n b k.move))
 
-  by_column : (c : Column) {x : Unit {0} × Store} → granted x ≡ removed_at s n c
-      → (j : ℕ) × (b : ℕ) × (c ≡ At j) × (target_of s.decl (without_type j (types_of s.decl (archetype_of s n))) ≡ some b) × MoveOk s n b × (x ≡ (tt, moved_to s n b (row_without s n j)))
+  by_column : (c : Option ℕ) {x : Unit {0} × Store} → granted x ≡ removed_at s n c
+      → (j : ℕ) × (b : ℕ) × (c ≡ Some j) × (target_of s.decl (without_type j (types_of s.decl (archetype_of s n))) ≡ some b) × MoveOk s n b × (x ≡ (tt, moved_to s n b (row_without s n j)))
   unfolding removed_at
-  by_column Missing e = absurd (not_refused e)
-  by_column (At j) e = let p = into_parts s n (row_without s n j) _ e in (j, p.0, refl, p.1, p.2, p.3)
+  by_column None e = absurd (not_refused e)
+  by_column (Some j) e = let p = into_parts s n (row_without s n j) _ e in (j, p.0, refl, p.1, p.2, p.3)
 
   -- and only they
   pub remove_parts : {x : Unit {0} × Store} → granted x ≡ removed s t g n → (j : ℕ) × (b : ℕ) × RemoveOk s t g n j b × (x ≡ (tt, moved_to s n b (row_without s n j)))

@@ -6,6 +6,7 @@ use mathlib.Core.Path.{◌≡◌, refl, sym, ◌∙◌}
 use mathlib.Core.Bool.{true, false, not}
 use mathlib.Core.List.{List, [], ◌∷◌}
 use lib.Dec.{eqb}
+use Rattle.std.specs.Prelude.{Option, Some, None}
 use Rattle.refusal.specs.Table.{Rule, ◌when◌, Answer, ◌or_else◌, ◌otherwise◌}
 use Rattle.refusal.specs.Laws.{parts}
 use Rattle.handle.specs.Bits.{generation_in, number_in}
@@ -14,8 +15,6 @@ use Rattle.id_tables.specs.Head.{flushed}
 use Rattle.id_tables.specs.Ids.{live}
 use Rattle.decl.specs.Decl.{types_of}
 use Rattle.decl.specs.Lookup.{column_of}
-use Rattle.decl.specs.declared.Column.{Column}
-use Rattle.decl.specs.declared.Column.TheVariants.{At, Missing}
 use Rattle.store_tables.specs.Store.{Store}
 use Rattle.store_tables.specs.Rows.{archetype_of, row_of, owns, moved_damaged}
 use Rattle.store_tables.specs.Kept.{Entered}
@@ -28,15 +27,15 @@ use Rattle.store_moves.proofs.Refusing.{moved_there, into_lines}
 use Rattle.store_remove.specs.Remove.{removed_at, removed, removing}
 
 -- the store that a remove leaves
-abbrev pub removed_store : Store → ℕ → Column → Store
-removed_store s n (At j) = moved_there s n (shrunk_into s n (At j)) (run_without s.decl s.rows (archetype_of s n) (row_of s n) j)
-removed_store s n Missing = s
+abbrev pub removed_store : Store → ℕ → Option ℕ → Store
+removed_store s n (Some j) = moved_there s n (shrunk_into s n (Some j)) (run_without s.decl s.rows (archetype_of s n) (row_of s n) j)
+removed_store s n None = s
 
-at_lines : (s : Store) (n : ℕ) (c : Column) → moved_damaged s (archetype_of s n) (row_of s n) ≡ false
+at_lines : (s : Store) (n : ℕ) (c : Option ℕ) → moved_damaged s (archetype_of s n) (row_of s n) ≡ false
     → removed_at s n c ≡ (15 when is_missing c ∷ 14 when is_none (shrunk_into s n c) ∷ 8 when any_held s.words ∷ 4 when is_full s (shrunk_into s n c) ∷ [] otherwise (tt, removed_store s n c))
 unfolding removed_at ◌or_else◌
-at_lines s n (At j) w = into_lines s n (shrunk_into s n (At j)) _ w
-at_lines s n Missing w = refl
+at_lines s n (Some j) w = into_lines s n (shrunk_into s n (Some j)) _ w
+at_lines s n None w = refl
 
 unshort : {A : Type 0} (rules : List Rule) (a : Answer A) → (13 when false ∷ rules or_else a) ≡ (rules or_else a)
 unfolding ◌or_else◌

@@ -1,88 +1,100 @@
 // Remove a component: the row moves to the archetype of its other types.
 #![tactic(auto)]
 
-ghost use Rattle.std.specs.Prelude.{true, ◌≡◌, ◌<◌};
-ghost use Rattle.refusal.specs.Table.{Did, test_of};
-ghost use Rattle.id_tables.specs.Ids.{ids_of, place_at};
-ghost use Rattle.decl.specs.Decl.{decl_of, width_of, types_of, sizes_of};
+ghost use Rattle.std.specs.Prelude.{◌≡◌, ◌<◌};
+ghost use Rattle.refusal.specs.Table.{Did, answer_of};
+ghost use Rattle.id_tables.specs.Ids.{ids_of, ids_in, place_at};
+ghost use Rattle.decl.specs.Decl.{decl_in, width_of, types_of, sizes_of};
 ghost use Rattle.decl.specs.Places.{span_of};
 ghost use Rattle.decl.specs.Lookup.{column_of};
-ghost use Rattle.row_step.specs.Tables.{tables_of};
+ghost use Rattle.row_step.specs.Tables.{tables_of, rows_in};
 ghost use Rattle.column_entry.specs.Entry.{block_in};
 ghost use Rattle.store_steps.specs.Seats.{seats_of};
-ghost use Rattle.store_tables.specs.Store.{store_of};
-ghost use Rattle.store_tables.specs.Rows.{archetype_of, owns};
+ghost use Rattle.store_tables.specs.Store.{store_of, store_in};
+ghost use Rattle.store_tables.specs.Rows.{archetype_of};
 ghost use Rattle.store_tables.specs.Kept.{Entered};
 ghost use Rattle.store_moves.specs.Target.{without_type};
 ghost use Rattle.store_moves.specs.Moves.{run_without};
 ghost use Rattle.store_moves.specs.Steps.{moved_seats};
 ghost use Rattle.store_moves.specs.Kept.{Moving};
-ghost use Rattle.store_remove.specs.Remove.{removed_at, removing};
-ghost use Rattle.store_remove.specs.Seen.{way_for, way_of};
+ghost use Rattle.store_remove.specs.Remove.{removing};
+ghost use Rattle.store_remove.specs.Seen.{way_for, Finds};
 
-use decl::{Column, Span};
-use handle::{Bits, Handle, Number, Place};
-use id_tables::Head;
-use refusal::{Refusal, Tested};
-use store_moves::{Change, Target, gather, move_row, move_tested, target_of};
+use decl::{Declaration, Span};
+use handle::{Handle, Number, Place};
+use id_tables::{Head, IdTables};
+use refusal::Refusal;
+use row_step::RowTables;
+use store_moves::{Change, ROOM, gather, move_row, move_tested, target_of};
 use store_steps::part_of;
-use store_tables::{Entity, entity_at};
-
-// The bytes of the widest row: 16 columns of 64 bytes.
-const ROOM: usize = 1024;
+use store_tables::StoreTables;
 
 // How a component goes: its column, and the archetype that the row moves to.
-#[derive(Clone, Copy)]
-enum Way {
-    From(usize, u32),
-    Refused(Refusal),
+#[derive(Clone, Copy, Debug, PartialEq, Eq)]
+struct Way {
+    column: usize,
+    target: u32,
 }
 
 // What a remove tests of an entity at a place.
 fn way_for(
-    head: Head,
-    rows: &[u32],
-    widths: &[u32],
-    types: &[u32],
-    sizes: &[u32],
-    generations: &[u32],
-    archetypes: &[u32],
-    indices: &[u32],
-    pending: &[u32],
-    numbers: &[u32],
-    counts: &[u32],
-    bytes: &[u8],
-    words: &[u64],
+    store: &StoreTables<'_>,
     span: Span,
     place: Place,
     number: Number,
     kind: u32,
-) -> Way
-    requires entered { Entered (store_of (decl_of rows.now widths.now types.now sizes.now) (ids_of head generations.now archetypes.now indices.now pending.now) (tables_of numbers.now counts.now bytes.now) words.now) }
-    requires span_value { (span ≡ span_of (decl_of rows.now widths.now types.now sizes.now) (archetype_of (store_of (decl_of rows.now widths.now types.now sizes.now) (ids_of head generations.now archetypes.now indices.now pending.now) (tables_of numbers.now counts.now bytes.now) words.now) number.0)) × (place ≡ place_at (ids_of head generations.now archetypes.now indices.now pending.now) number.0) }
-    ensures { way_of result ≡ way_for (store_of (decl_of rows.now widths.now types.now sizes.now) (ids_of head generations.now archetypes.now indices.now pending.now) (tables_of numbers.now counts.now bytes.now) words.now) number.0 (column_of (types_of (decl_of rows.now widths.now types.now sizes.now) (archetype_of (store_of (decl_of rows.now widths.now types.now sizes.now) (ids_of head generations.now archetypes.now indices.now pending.now) (tables_of numbers.now counts.now bytes.now) words.now) number.0)) kind) }
+) -> Result<Way, Refusal>
+    requires entered { Entered (store_in store.now) }
+    requires span_value { let s = store_in store.now in
+        (span ≡ span_of s.decl (archetype_of s number.0)) × (place ≡ place_at s.ids number.0) }
+    ensures { let s = store_in store.now in
+        answer_of result ≡ way_for s number.0 (column_of (types_of s.decl (archetype_of s number.0)) kind) }
 {
-    let own = part_of(types, span);
-    let Column::At(column) = decl::find(own, kind) else {
-        return Way::Refused(Refusal::NoComponent);
+    let own = part_of(store.declaration.types, span);
+    let Some(column) = decl::find(own, kind) else {
+        return Err(Refusal::NoComponent);
     };
-    let Target::At(b) = target_of(rows, widths, types, sizes, own, column, Change::Taken) else {
-        return Way::Refused(Refusal::NoTarget);
+    let Some(b) = target_of(&store.declaration, own, column, Change::Taken) else {
+        return Err(Refusal::NoTarget);
     };
-    if let Tested::Refused(r) = move_tested(
-        head.used, rows, archetypes, indices, numbers, counts, words, span.row, place, b,
-    ) {
-        return Way::Refused(r);
-    }
-    Way::From(column, b as u32)
+    move_tested(store, span.row, place, b)?;
+    Ok(Way {
+        column,
+        target: b as u32,
+    })
+}
+
+// The entity's row and how the component goes, or why the remove is refused. The views are lent apart, and the store is made
+// of them here: where tables are written afterwards, the borrow checker covers no struct of them all.
+fn row_for(
+    declaration: &Declaration<'_>,
+    ids: &IdTables<'_>,
+    rows: &RowTables<'_>,
+    words: &[u64],
+    bits: u64,
+    kind: u32,
+) -> Result<(Span, Place, Number, Way), Refusal>
+    ensures { Finds (store_of (decl_in declaration.now) (ids_in ids.now) (rows_in rows.now) words.now) bits kind result }
+{
+    let store = StoreTables {
+        declaration: *declaration,
+        ids: *ids,
+        rows: *rows,
+        words,
+    };
+    store.tested(false)?;
+    let Ok(handle) = Handle::from_bits(bits) else {
+        return Err(Refusal::ZeroGeneration);
+    };
+    let (span, place) = store.entity_at(handle)?;
+    let number = handle.id();
+    let way = way_for(&store, span, place, number, kind)?;
+    Ok((span, place, number, way))
 }
 
 // The row moves to the target, without a column.
 fn take_out(
-    rows: &[u32],
-    widths: &[u32],
-    types: &[u32],
-    sizes: &[u32],
+    declaration: &Declaration<'_>,
     archetypes: &mut [u32],
     indices: &mut [u32],
     numbers: &mut [u32],
@@ -94,93 +106,48 @@ fn take_out(
     column: usize,
     target: u32,
 )
-    requires moving { Moving (decl_of rows.now widths.now types.now sizes.now) (tables_of numbers.old counts.old bytes.old) place.archetype place.index.0 target }
-    requires span_value { (span ≡ span_of (decl_of rows.now widths.now types.now sizes.now) place.archetype) × (column < width_of (decl_of rows.now widths.now types.now sizes.now) place.archetype) × (types_of (decl_of rows.now widths.now types.now sizes.now) target ≡ without_type column (types_of (decl_of rows.now widths.now types.now sizes.now) place.archetype)) }
-    ensures { seats_of archetypes.new indices.new (tables_of numbers.new counts.new bytes.new) ≡ moved_seats (block_in (decl_of rows.now widths.now types.now sizes.now) place.archetype) (sizes_of (decl_of rows.now widths.now types.now sizes.now) place.archetype) (block_in (decl_of rows.now widths.now types.now sizes.now) target) (sizes_of (decl_of rows.now widths.now types.now sizes.now) target) (seats_of archetypes.old indices.old (tables_of numbers.old counts.old bytes.old)) place.archetype place.index.0 target number.0 (run_without (decl_of rows.now widths.now types.now sizes.now) (tables_of numbers.old counts.old bytes.old) place.archetype place.index.0 column) }
+    requires moving { Moving (decl_in declaration.now) (tables_of numbers.old counts.old bytes.old) place.archetype place.index.0 target }
+    requires span_value { let d = decl_in declaration.now in
+        (span ≡ span_of d place.archetype) × (column < width_of d place.archetype) × (types_of d target ≡ without_type column (types_of d place.archetype)) }
+    ensures { let d = decl_in declaration.now in
+        let lent = seats_of archetypes.old indices.old (tables_of numbers.old counts.old bytes.old) in
+        let run = run_without d lent.rows place.archetype place.index.0 column in
+        seats_of archetypes.new indices.new (tables_of numbers.new counts.new bytes.new) ≡ moved_seats (block_in d place.archetype) (sizes_of d place.archetype) (block_in d target) (sizes_of d target) lent place.archetype place.index.0 target number.0 run }
 {
-    let there = column_entry::span(rows, widths, types, sizes, target as usize);
-    let nothing = [0u8; 0];
+    let there = column_entry::span(declaration, target as usize);
     let mut run = [0u8; ROOM];
     gather(
         &mut run,
+        declaration,
         bytes,
-        rows,
-        sizes,
         span,
         place,
         column,
         column + 1,
         0,
-        &nothing,
+        &[],
     );
     move_row(
-        rows, sizes, archetypes, indices, numbers, counts, bytes, span, there, place, target,
-        number, &run,
-    );
-}
-
-// A remove at a place that was found.
-fn remove_at(
-    head: Head,
-    rows: &[u32],
-    widths: &[u32],
-    types: &[u32],
-    sizes: &[u32],
-    generations: &[u32],
-    archetypes: &mut [u32],
-    indices: &mut [u32],
-    pending: &[u32],
-    numbers: &mut [u32],
-    counts: &mut [u32],
-    bytes: &mut [u8],
-    words: &[u64],
-    span: Span,
-    place: Place,
-    number: Number,
-    kind: u32,
-) -> Tested
-    requires entered { Entered (store_of (decl_of rows.now widths.now types.now sizes.now) (ids_of head generations.now archetypes.old indices.old pending.now) (tables_of numbers.old counts.old bytes.old) words.now) }
-    requires span_value { (span ≡ span_of (decl_of rows.now widths.now types.now sizes.now) (archetype_of (store_of (decl_of rows.now widths.now types.now sizes.now) (ids_of head generations.now archetypes.old indices.old pending.now) (tables_of numbers.old counts.old bytes.old) words.now) number.0)) × (place ≡ place_at (ids_of head generations.now archetypes.old indices.old pending.now) number.0) }
-    requires number_value { owns (store_of (decl_of rows.now widths.now types.now sizes.now) (ids_of head generations.now archetypes.old indices.old pending.now) (tables_of numbers.old counts.old bytes.old) words.now) number.0 ≡ true }
-    ensures { Did (removed_at (store_of (decl_of rows.now widths.now types.now sizes.now) (ids_of head generations.now archetypes.old indices.old pending.now) (tables_of numbers.old counts.old bytes.old) words.now) number.0 (column_of (types_of (decl_of rows.now widths.now types.now sizes.now) (archetype_of (store_of (decl_of rows.now widths.now types.now sizes.now) (ids_of head generations.now archetypes.old indices.old pending.now) (tables_of numbers.old counts.old bytes.old) words.now) number.0)) kind)) (store_of (decl_of rows.now widths.now types.now sizes.now) (ids_of head generations.now archetypes.old indices.old pending.now) (tables_of numbers.old counts.old bytes.old) words.now) (test_of result) (store_of (decl_of rows.now widths.now types.now sizes.now) (ids_of head generations.now archetypes.new indices.new pending.now) (tables_of numbers.new counts.new bytes.new) words.now) }
-{
-    match way_for(
-        head,
-        rows,
-        widths,
-        types,
-        sizes,
-        generations,
+        declaration,
         archetypes,
         indices,
-        pending,
         numbers,
         counts,
         bytes,
-        words,
         span,
+        there,
         place,
+        target,
         number,
-        kind,
-    ) {
-        Way::Refused(r) => Tested::Refused(r),
-        Way::From(column, target) => {
-            take_out(
-                rows, widths, types, sizes, archetypes, indices, numbers, counts, bytes, span,
-                place, number, column, target,
-            );
-            Tested::Passed
-        }
-    }
+        &run,
+    );
 }
 
-// Takes a component of a type from an entity.
+// Takes a component of a type from an entity. The tables stay slices: C lends `pending` const and others to be written, so no
+// one struct can hold them.
 pub fn remove(
     head: Head,
-    rows: &[u32],
-    widths: &[u32],
-    types: &[u32],
-    sizes: &[u32],
+    declaration: &Declaration<'_>,
     generations: &[u32],
     archetypes: &mut [u32],
     indices: &mut [u32],
@@ -191,63 +158,37 @@ pub fn remove(
     words: &[u64],
     bits: u64,
     kind: u32,
-) -> Tested
-    ensures { Did (removing (store_of (decl_of rows.now widths.now types.now sizes.now) (ids_of head generations.now archetypes.old indices.old pending.now) (tables_of numbers.old counts.old bytes.old) words.now) bits kind) (store_of (decl_of rows.now widths.now types.now sizes.now) (ids_of head generations.now archetypes.old indices.old pending.now) (tables_of numbers.old counts.old bytes.old) words.now) (test_of result) (store_of (decl_of rows.now widths.now types.now sizes.now) (ids_of head generations.now archetypes.new indices.new pending.now) (tables_of numbers.new counts.new bytes.new) words.now) }
+) -> Result<(), Refusal>
+    ensures { let decl = decl_in declaration.now in
+        let lent = store_of decl (ids_of head generations.now archetypes.old indices.old pending.now) (tables_of numbers.old counts.old bytes.old) words.now in
+        let left = store_of decl (ids_of head generations.now archetypes.new indices.new pending.now) (tables_of numbers.new counts.new bytes.new) words.now in
+        Did (removing lent bits kind) lent (answer_of result) left }
 {
-    if let Tested::Refused(r) = store_tables::tested(
-        head,
-        rows,
-        widths,
-        types,
-        sizes,
-        generations,
-        archetypes,
-        indices,
-        pending,
+    let rows = RowTables {
         numbers,
         counts,
         bytes,
-        words,
-        false,
-    ) {
-        return Tested::Refused(r);
-    }
-    let Bits::Good(handle) = Handle::from_bits(bits) else {
-        return Tested::Refused(Refusal::ZeroGeneration);
     };
-    match entity_at(
+    let ids = IdTables {
         head,
-        rows,
-        widths,
-        types,
-        sizes,
         generations,
         archetypes,
         indices,
         pending,
+    };
+    let (span, place, number, way) = row_for(declaration, &ids, &rows, words, bits, kind)?;
+    take_out(
+        declaration,
+        archetypes,
+        indices,
         numbers,
         counts,
-        handle,
-    ) {
-        Entity::Refused(r) => Tested::Refused(r),
-        Entity::At(span, place) => remove_at(
-            head,
-            rows,
-            widths,
-            types,
-            sizes,
-            generations,
-            archetypes,
-            indices,
-            pending,
-            numbers,
-            counts,
-            bytes,
-            words,
-            span,
-            place,
-            handle.id(),
-            kind,
-        ),
-    }
+        bytes,
+        span,
+        place,
+        number,
+        way.column,
+        way.target,
+    );
+    Ok(())
 }

@@ -3,3 +3,4 @@ pub mod Lifting
 pub mod Laws
 pub mod Refusing
 pub mod Determined
+pub mod Heads

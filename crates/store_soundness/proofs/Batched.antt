@@ -1,5 +1,6 @@
 -- Reads after a reservation, a flush, a clear and a write.
 -- Assumes nothing.
+use Rattle.std.specs.Prelude.{Some}
 use Prim.{Unit}
 use Prim.Native.Nat.{ℕ, ◌+◌, ◌-◌, ◌<◌, ◌≤◌}
 use native.Mathlib.Omega.{arith}
@@ -22,7 +23,6 @@ use Rattle.ids.proofs.Listing.{below_or_not}
 use Rattle.id_batches.specs.Flush.{reserved_fresh}
 use Rattle.decl.specs.Decl.{first_column, types_of}
 use Rattle.decl.specs.Lookup.{column_of}
-use Rattle.decl.specs.declared.Column.TheVariants.{At}
 use Rattle.decl.proofs.Search.{column_held}
 use Rattle.cells.specs.Cell.{cell, put}
 use Rattle.row_step.specs.Tables.{tables_of}
@@ -65,7 +65,7 @@ module _ {s : Store} (sound : Sound s) {bits t : ℕ} {value : List ℕ} {x : Un
   left_sound k = subst Sound (ap (λ (y : Unit {0} × Store). y.1) p.leaves) k
 
   -- a component of another number, or of another type
-  elsewhere : (m u c : ℕ) → Lives s.ids m → column_of (types_of s.decl (archetype_of s m)) u ≡ At c → (m ≡ n → u ≡ t → ⊥)
+  elsewhere : (m u c : ℕ) → Lives s.ids m → column_of (types_of s.decl (archetype_of s m)) u ≡ Some c → (m ≡ n → u ≡ t → ⊥)
       → held_at s.decl left.rows (archetype_of s m) (row_of s m) c ≡ held_at s.decl s.rows (archetype_of s m) (row_of s m) c
   elsewhere m u c l e ne =
       let q = seat_of sound m l in

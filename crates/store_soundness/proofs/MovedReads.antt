@@ -1,5 +1,6 @@
 -- A row that moves to another archetype: a read by any other handle gives what it gave.
 -- Assumes nothing.
+use Rattle.std.specs.Prelude.{Some, None}
 use Prim.Native.Nat.{ℕ, ◌<◌}
 use native.Mathlib.Omega.{arith}
 use mathlib.Core.Path.{◌≡◌, sym, ap, ◌∙◌, subst}
@@ -17,7 +18,6 @@ use Rattle.borrow_word.specs.Slice.{any_held}
 use Rattle.decl.specs.Decl.{Decl, archetypes, rows_of, width_of, types_of, sizes_of, size_of}
 use Rattle.decl.specs.Places.{row_width}
 use Rattle.decl.specs.Lookup.{column_of}
-use Rattle.decl.specs.declared.Column.TheVariants.{At, Missing}
 use Rattle.cells.specs.Cell.{cell}
 use Rattle.cells.specs.Line.{width}
 use Rattle.row_step.specs.Tables.{Rows, count_of, last_of}
@@ -138,7 +138,7 @@ module _ {s : Store} (sound : Sound s) (bits : ℕ) (alive : live s.ids (generat
       placed_here vac n (place_of b (count_of w b)) (omega (arith, ok.archetypes_long, ok.used_in)) (omega (arith, ok.indices_long, ok.used_in))
 
   module _ (nz : generation_in bits ≡ 0 → ⊥) (t : ℕ) where
-    pub moved_read : any_held s.words ≡ false → length run ≡ row_width s.decl b → (c : ℕ) → column_of (types_of s.decl b) t ≡ At c
+    pub moved_read : any_held s.words ≡ false → length run ≡ row_width s.decl b → (c : ℕ) → column_of (types_of s.decl b) t ≡ Some c
         → read_bytes moved bits t ≡ granted (cell run (width (take c (sizes_of s.decl b))) (size_of s.decl b c))
     moved_read free long c e =
         let q = moved_store sound l b run declared room apart in
@@ -150,7 +150,7 @@ module _ {s : Store} (sound : Sound s) (bits : ℕ) (alive : live s.ids (generat
         (removed_kept d u a r (both_there sound l b run declared room apart) b (count_of w b) c room (λ x. absurd (apart x))
         ∙ taken_run d w b n run (sound_entered sound).rows declared room long c (column_in d b t c (sound_entered sound).rows.tabled.kept e))))
 
-    pub moved_lacks : column_of (types_of s.decl b) t ≡ Missing → read_bytes moved bits t ≡ refused 15
+    pub moved_lacks : column_of (types_of s.decl b) t ≡ None → read_bytes moved bits t ≡ refused 15
     moved_lacks e =
         let q = moved_store sound l b run declared room apart in
         subst (λ (z : Store). read_bytes z bits t ≡ refused 15) (sym q)

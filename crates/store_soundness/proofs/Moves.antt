@@ -1,5 +1,6 @@
 -- Insert and remove of a component in sound tables.
 -- Assumes nothing.
+use Rattle.std.specs.Prelude.{Some}
 use Prim.{Unit, tt}
 use Prim.Native.Nat.{ℕ, ◌<◌}
 use mathlib.Core.Path.{◌≡◌, sym, ap, ◌∙◌, subst}
@@ -12,7 +13,6 @@ use Rattle.refusal.specs.Table.{granted}
 use Rattle.handle.specs.Bits.{generation_in, number_in}
 use Rattle.decl.specs.Decl.{archetypes, types_of}
 use Rattle.decl.specs.Lookup.{column_of}
-use Rattle.decl.specs.declared.Column.TheVariants.{At}
 use Rattle.decl.specs.Kept.{Declared}
 use Rattle.column_entry.specs.Entry.{wrong_size}
 use Rattle.cells.specs.Cell.{put}
@@ -64,7 +64,7 @@ module _ {s : Store} (sound : Sound s) (bits : ℕ) (k : EntityOk s (generation_
       let q = target_means s.decl _ b e in
       with_differs s.decl kept (archetype_of s n) b (own_owned sound lived).archetype_in q.0 t (types_before t (types_of s.decl (archetype_of s n))) (before_in t (types_of s.decl (archetype_of s n))) q.1
 
-  pub shrunk_differs : (t j b : ℕ) → column_of (types_of s.decl (archetype_of s (number_in bits))) t ≡ At j
+  pub shrunk_differs : (t j b : ℕ) → column_of (types_of s.decl (archetype_of s (number_in bits))) t ≡ Some j
       → target_of s.decl (without_type j (types_of s.decl (archetype_of s (number_in bits)))) ≡ some b → b ≡ archetype_of s (number_in bits) → ⊥
   shrunk_differs t j b c e =
       let q = target_means s.decl _ b e in

@@ -1,5 +1,6 @@
 -- What the handle that an insert or a remove names reads afterwards: the value, 15 for what was removed, and every other component as before.
 -- Assumes nothing.
+use Rattle.std.specs.Prelude.{Option, Some, None}
 use Prim.Native.Nat.{ℕ, suc, ◌+◌, ◌-◌, ◌<◌, ◌≤◌}
 use native.Mathlib.Omega.{arith}
 use native.Mathlib.Nat.{eq-or-lt_of_le}
@@ -14,8 +15,6 @@ use Rattle.handle.specs.Bits.{generation_in, number_in}
 use Rattle.decl.specs.Decl.{Decl, archetypes, rows_of, width_of, first_column, types_of, type_of, sizes_of, size_of}
 use Rattle.decl.specs.Kept.{Declared}
 use Rattle.decl.specs.Lookup.{column_of}
-use Rattle.decl.specs.declared.Column.{Column}
-use Rattle.decl.specs.declared.Column.TheVariants.{At, Missing}
 use Rattle.decl.proofs.Lists.{below_or_not}
 use Rattle.decl.proofs.Keeping.{types_length, size_at, type_at}
 use Rattle.decl.proofs.Lending.{columns_in}
@@ -44,7 +43,7 @@ use Rattle.store_soundness.proofs.Touched.{not_unique}
 use Rattle.store_soundness.proofs.MovedReads.{moved_read, moved_lacks}
 use Rattle.store_soundness.proofs.Changed.{grown_long, grown_before, grown_here, grown_after, shrunk_long, shrunk_before, shrunk_after}
 
-same_column : {i j : ℕ} → At i ≡ At j → i ≡ j
+same_column : {i j : ℕ} → Some i ≡ Some j → i ≡ j
 same_column e = cc
 
 module _ {s : Store} (sound : Sound s) (bits : ℕ) (nz : generation_in bits ≡ 0 → ⊥) (k : EntityOk s (generation_in bits) (number_in bits)) (b : ℕ)
@@ -83,11 +82,11 @@ module _ {s : Store} (sound : Sound s) (bits : ℕ) (nz : generation_in bits ≡
   types_b = types_length d declared.shaped b
 
   -- a component that was held
-  was : (u c : ℕ) → column_of (types_of d a) u ≡ At c → read_bytes s bits u ≡ granted (held_at d w a r c)
+  was : (u c : ℕ) → column_of (types_of d a) u ≡ Some c → read_bytes s bits u ≡ granted (held_at d w a r c)
   was u c e = read_held sound bits u nz k.lives c e (not_unique s.words m.no_word _)
 
   -- a column of the target
-  stands : (u c : ℕ) → c < width_of d b → type_of d b c ≡ u → column_of (types_of d b) u ≡ At c
+  stands : (u c : ℕ) → c < width_of d b → type_of d b c ≡ u → column_of (types_of d b) u ≡ Some c
   stands u c h e = column_is (types_of d b) u c (declared.rises b) (omega (arith, types_b)) e
 
   -- the row with type t put in
@@ -116,12 +115,12 @@ module _ {s : Store} (sound : Sound s) (bits : ℕ) (nz : generation_in bits ≡
     abbrev run : List ℕ
     run = run_with d w a r t value
 
-    reads : (u c : ℕ) → column_of (types_of d b) u ≡ At c → read_bytes (moved_to s n b run) bits u ≡ granted (cell run (width (take c (sizes_of d b))) (size_of d b c))
+    reads : (u c : ℕ) → column_of (types_of d b) u ≡ Some c → read_bytes (moved_to s n b run) bits u ≡ granted (cell run (width (take c (sizes_of d b))) (size_of d b c))
     reads u c h =
         subst (λ (z : Store). read_bytes z bits u ≡ granted (cell run (width (take c (sizes_of d b))) (size_of d b c))) (sym (moved_to_lem s n b run))
         (moved_read sound bits k.lives b run there m.row_unused apart nz u m.no_word (grown_long d w a r (sound_entered sound).rows here row b there t value e size) c h)
 
-    lacks : (u : ℕ) → column_of (types_of d b) u ≡ Missing → read_bytes (moved_to s n b run) bits u ≡ refused 15
+    lacks : (u : ℕ) → column_of (types_of d b) u ≡ None → read_bytes (moved_to s n b run) bits u ≡ refused 15
     lacks u h = subst (λ (z : Store). read_bytes z bits u ≡ refused 15) (sym (moved_to_lem s n b run)) (moved_lacks sound bits k.lives b run there m.row_unused apart nz u h)
 
     pub grown_read : read_bytes (moved_to s (number_in bits) b (run_with s.decl s.rows (archetype_of s (number_in bits)) (row_of s (number_in bits)) t value)) bits t ≡ granted value
@@ -129,7 +128,7 @@ module _ {s : Store} (sound : Sound s) (bits : ℕ) (nz : generation_in bits ≡
         reads t at (stands t at at_b (type_added d declared a b here there t at at_in e))
         ∙ ap granted (grown_here d w a r (sound_entered sound).rows here row b there t value e size)
 
-    held_before : (u c : ℕ) → column_of (types_of d a) u ≡ At c → read_bytes (moved_to s n b run) bits u ≡ read_bytes s bits u
+    held_before : (u c : ℕ) → column_of (types_of d a) u ≡ Some c → read_bytes (moved_to s n b run) bits u ≡ read_bytes s bits u
     held_before u c h =
         let x = column_held (types_of d a) u c h in
         ⊎_elim
@@ -141,12 +140,12 @@ module _ {s : Store} (sound : Sound s) (bits : ℕ) (nz : generation_in bits ≡
         ∙ ap granted (grown_after d w a r (sound_entered sound).rows here row b there t value e size c l (omega (arith, x.0, types_a))) ∙ sym (was u c h))
         (below_or_not c at)
 
-    lacked_before : (u : ℕ) → (u ≡ t → ⊥) → column_of (types_of d a) u ≡ Missing → read_bytes (moved_to s n b run) bits u ≡ read_bytes s bits u
+    lacked_before : (u : ℕ) → (u ≡ t → ⊥) → column_of (types_of d a) u ≡ None → read_bytes (moved_to s n b run) bits u ≡ read_bytes s bits u
     lacked_before u ne h = lacks u (none (column_of (types_of d b) u) refl) ∙ sym (read_missing sound bits u nz k.lives h)
       where
-        none : (c : Column) → column_of (types_of d b) u ≡ c → column_of (types_of d b) u ≡ Missing
-        none Missing q = q
-        none (At c) q =
+        none : (c : Option ℕ) → column_of (types_of d b) u ≡ c → column_of (types_of d b) u ≡ None
+        none None q = q
+        none (Some c) q =
             let x = column_held (types_of d b) u c q in
             absurd
             (⊎_elim
@@ -163,12 +162,12 @@ module _ {s : Store} (sound : Sound s) (bits : ℕ) (nz : generation_in bits ≡
         → read_bytes (moved_to s (number_in bits) b (run_with s.decl s.rows (archetype_of s (number_in bits)) (row_of s (number_in bits)) t value)) bits u ≡ read_bytes s bits u
     grown_same u ne = by (column_of (types_of d a) u) refl
       where
-        by : (c : Column) → column_of (types_of d a) u ≡ c → read_bytes (moved_to s n b run) bits u ≡ read_bytes s bits u
-        by (At c) h = held_before u c h
-        by Missing h = lacked_before u ne h
+        by : (c : Option ℕ) → column_of (types_of d a) u ≡ c → read_bytes (moved_to s n b run) bits u ≡ read_bytes s bits u
+        by (Some c) h = held_before u c h
+        by None h = lacked_before u ne h
 
   -- the row with the type of column j taken out
-  module _ (t j : ℕ) (held : column_of (types_of d a) t ≡ At j) (e : types_of d b ≡ without_type j (types_of d a)) where
+  module _ (t j : ℕ) (held : column_of (types_of d a) t ≡ Some j) (e : types_of d b ≡ without_type j (types_of d a)) where
     in_row : j < width_of d a
     in_row = column_in d a t j (sound_entered sound).rows.tabled.kept held
 
@@ -181,16 +180,16 @@ module _ {s : Store} (sound : Sound s) (bits : ℕ) (nz : generation_in bits ≡
     abbrev less : List ℕ
     less = run_without d w a r j
 
-    reads_less : (u c : ℕ) → column_of (types_of d b) u ≡ At c → read_bytes (moved_to s n b less) bits u ≡ granted (cell less (width (take c (sizes_of d b))) (size_of d b c))
+    reads_less : (u c : ℕ) → column_of (types_of d b) u ≡ Some c → read_bytes (moved_to s n b less) bits u ≡ granted (cell less (width (take c (sizes_of d b))) (size_of d b c))
     reads_less u c h =
         subst (λ (z : Store). read_bytes z bits u ≡ granted (cell less (width (take c (sizes_of d b))) (size_of d b c))) (sym (moved_to_lem s n b less))
         (moved_read sound bits k.lives b less there m.row_unused other nz u m.no_word (shrunk_long d w a r (sound_entered sound).rows here row b there j in_row e) c h)
 
-    lacks_less : (u : ℕ) → column_of (types_of d b) u ≡ Missing → read_bytes (moved_to s n b less) bits u ≡ refused 15
+    lacks_less : (u : ℕ) → column_of (types_of d b) u ≡ None → read_bytes (moved_to s n b less) bits u ≡ refused 15
     lacks_less u h = subst (λ (z : Store). read_bytes z bits u ≡ refused 15) (sym (moved_to_lem s n b less)) (moved_lacks sound bits k.lives b less there m.row_unused other nz u h)
 
     -- a column of the target is one of the row's other columns
-    from : (u c : ℕ) → column_of (types_of d b) u ≡ At c → (i : ℕ) × (column_of (types_of d a) u ≡ At i) × (i ≡ j → ⊥)
+    from : (u c : ℕ) → column_of (types_of d b) u ≡ Some c → (i : ℕ) × (column_of (types_of d a) u ≡ Some i) × (i ≡ j → ⊥)
     from u c q =
         let x = column_held (types_of d b) u c q in
         ⊎_elim
@@ -201,11 +200,11 @@ module _ {s : Store} (sound : Sound s) (bits : ℕ) (nz : generation_in bits ≡
     pub shrunk_read : read_bytes (moved_to s (number_in bits) b (run_without s.decl s.rows (archetype_of s (number_in bits)) (row_of s (number_in bits)) j)) bits t ≡ refused 15
     shrunk_read = lacks_less t (none (column_of (types_of d b) t) refl)
       where
-        none : (c : Column) → column_of (types_of d b) t ≡ c → column_of (types_of d b) t ≡ Missing
-        none Missing q = q
-        none (At c) q = let x = from t c q in absurd (x.2 (same_column (sym x.1 ∙ held)))
+        none : (c : Option ℕ) → column_of (types_of d b) t ≡ c → column_of (types_of d b) t ≡ None
+        none None q = q
+        none (Some c) q = let x = from t c q in absurd (x.2 (same_column (sym x.1 ∙ held)))
 
-    still_held : (u c : ℕ) → (u ≡ t → ⊥) → column_of (types_of d a) u ≡ At c → read_bytes (moved_to s n b less) bits u ≡ read_bytes s bits u
+    still_held : (u c : ℕ) → (u ≡ t → ⊥) → column_of (types_of d a) u ≡ Some c → read_bytes (moved_to s n b less) bits u ≡ read_bytes s bits u
     still_held u c ne h =
         let x = column_held (types_of d a) u c h in
         let nj : c ≡ j → ⊥ = λ z. ne (sym x.1 ∙ ap (λ (i : ℕ). type_of d a i) z ∙ (column_held (types_of d a) t j held).1) in
@@ -220,12 +219,12 @@ module _ {s : Store} (sound : Sound s) (bits : ℕ) (nz : generation_in bits ≡
         ∙ ap granted (shrunk_after d w a r (sound_entered sound).rows here row b there j in_row e (c - 1) (omega (arith, nj)) (omega (arith, x.0, types_a, z)) ∙ ap (λ (i : ℕ). held_at d w a r i) z) ∙ sym (was u c h))
         (below_or_not c j)
 
-    still_lacked : (u : ℕ) → column_of (types_of d a) u ≡ Missing → read_bytes (moved_to s n b less) bits u ≡ read_bytes s bits u
+    still_lacked : (u : ℕ) → column_of (types_of d a) u ≡ None → read_bytes (moved_to s n b less) bits u ≡ read_bytes s bits u
     still_lacked u h = lacks_less u (none (column_of (types_of d b) u) refl) ∙ sym (read_missing sound bits u nz k.lives h)
       where
-        none : (c : Column) → column_of (types_of d b) u ≡ c → column_of (types_of d b) u ≡ Missing
-        none Missing q = q
-        none (At c) q =
+        none : (c : Option ℕ) → column_of (types_of d b) u ≡ c → column_of (types_of d b) u ≡ None
+        none None q = q
+        none (Some c) q =
             let x = from u c q in
             let y = column_held (types_of d a) u x.0 x.1 in
             absurd (column_missing (types_of d a) u h x.0 y.0 y.1)
@@ -234,6 +233,6 @@ module _ {s : Store} (sound : Sound s) (bits : ℕ) (nz : generation_in bits ≡
         → read_bytes (moved_to s (number_in bits) b (run_without s.decl s.rows (archetype_of s (number_in bits)) (row_of s (number_in bits)) j)) bits u ≡ read_bytes s bits u
     shrunk_same u ne = by (column_of (types_of d a) u) refl
       where
-        by : (c : Column) → column_of (types_of d a) u ≡ c → read_bytes (moved_to s n b less) bits u ≡ read_bytes s bits u
-        by (At c) h = still_held u c ne h
-        by Missing h = still_lacked u h
+        by : (c : Option ℕ) → column_of (types_of d a) u ≡ c → read_bytes (moved_to s n b less) bits u ≡ read_bytes s bits u
+        by (Some c) h = still_held u c ne h
+        by None h = still_lacked u h

@@ -1,5 +1,6 @@
 -- Two sound stores that agree about a handle: a read by it gives the same.
 -- Assumes nothing.
+use Rattle.std.specs.Prelude.{Option, Some, None}
 use Prim.Native.Nat.{ℕ, ◌+◌, ◌<◌}
 use mathlib.Core.Path.{◌≡◌, refl, sym, ap, ◌∙◌}
 use mathlib.Core.Bool.{Bool, true, false}
@@ -14,8 +15,6 @@ use Rattle.id_tables.specs.Ids.{Ids, index_at, live}
 use Rattle.id_tables.specs.Lookup.{reserved_new}
 use Rattle.decl.specs.Decl.{Decl, first_column, width_of, types_of}
 use Rattle.decl.specs.Lookup.{column_of}
-use Rattle.decl.specs.declared.Column.{Column}
-use Rattle.decl.specs.declared.Column.TheVariants.{At, Missing}
 use Rattle.cells.specs.Cell.{cell}
 use Rattle.row_step.specs.Tables.{Rows}
 use Rattle.columns.specs.Calls.{held_at}
@@ -43,7 +42,7 @@ pub record Same (d : Decl) (i j : Ids) (w u : Rows) (m : ℕ) : Type 0 where
 -- the same, of the column of one type alone
 pub record SameFor (d : Decl) (i j : Ids) (w u : Rows) (m t : ℕ) : Type 0 where
   pub archetype_same : archetype_at j m ≡ archetype_at i m
-  pub held_same : (c : ℕ) → column_of (types_of d (archetype_at i m)) t ≡ At c → held_at d u (archetype_at i m) (index_at j m) c ≡ held_at d w (archetype_at i m) (index_at i m) c
+  pub held_same : (c : ℕ) → column_of (types_of d (archetype_at i m)) t ≡ Some c → held_at d u (archetype_at i m) (index_at j m) c ≡ held_at d w (archetype_at i m) (index_at i m) c
 
 -- the bytes of a cell that is read
 abbrev took : List ℕ → ℕ × ℕ → Answer (List ℕ)
@@ -71,11 +70,11 @@ module _ {s : Store} (sound : Sound s) {j : Ids} {u : Rows} (after : Sound (stor
   refused_both n e e' = through e e' refl
 
   -- a column of one archetype, in two rows that hold the same there
-  in_column : (a r q : ℕ) → ((c : ℕ) → column_of (types_of s.decl a) t ≡ At c → held_at s.decl u a q c ≡ held_at s.decl s.rows a r c)
-      → (c : Column) → column_of (types_of s.decl a) t ≡ c
+  in_column : (a r q : ℕ) → ((c : ℕ) → column_of (types_of s.decl a) t ≡ Some c → held_at s.decl u a q c ≡ held_at s.decl s.rows a r c)
+      → (c : Option ℕ) → column_of (types_of s.decl a) t ≡ c
       → ((column_cell s.decl a q c and_then cell_read s.words) and_then took u.bytes) ≡ ((column_cell s.decl a r c and_then cell_read s.words) and_then took s.rows.bytes)
-  in_column a r q same Missing e = refl
-  in_column a r q same (At c) e = by (is_unique (get_or s.words (first_column s.decl a + c) 0)) refl
+  in_column a r q same None e = refl
+  in_column a r q same (Some c) e = by (is_unique (get_or s.words (first_column s.decl a + c) 0)) refl
     where
       by : (b : Bool) → is_unique (get_or s.words (first_column s.decl a + c) 0) ≡ b
           → (cell_read s.words (cell_in s.decl a q c) and_then took u.bytes) ≡ (cell_read s.words (cell_in s.decl a r c) and_then took s.rows.bytes)
@@ -150,11 +149,11 @@ module _ {s : Store} (sound : Sound s) (bits t : ℕ) (nz : generation_in bits �
     own = own_row sound (live_lives s.ids sound.ids (generation_in bits) (number_in bits) l).0
 
     -- live, in an archetype without the type: 15
-    pub read_missing : column_of (types_of s.decl (archetype_of s (number_in bits))) t ≡ Missing → read_bytes s bits t ≡ refused 15
+    pub read_missing : column_of (types_of s.decl (archetype_of s (number_in bits))) t ≡ None → read_bytes s bits t ≡ refused 15
     read_missing e =
         via_component (component_live s t (generation_in bits) (number_in bits) l own ∙ ap (column_cell s.decl a r) e) refl
 
-    module _ (c : ℕ) (e : column_of (types_of s.decl (archetype_of s (number_in bits))) t ≡ At c) where
+    module _ (c : ℕ) (e : column_of (types_of s.decl (archetype_of s (number_in bits))) t ≡ Some c) where
       found : component_at s t (generation_in bits) (number_in bits) ≡ granted (cell_in s.decl a r c)
       found = component_live s t (generation_in bits) (number_in bits) l own ∙ ap (column_cell s.decl a r) e
 

@@ -1,5 +1,6 @@
 -- Spawn at: a read by a handle of any other number gives what it gave, and the chosen handle reads the run.
 -- Assumes nothing.
+use Rattle.std.specs.Prelude.{Some, None}
 use Prim.Native.Nat.{ℕ, ◌<◌}
 use mathlib.Core.Path.{◌≡◌, refl, sym, ap, ◌∙◌, subst}
 use mathlib.Core.Bool.{Bool, true, false}
@@ -15,7 +16,6 @@ use Rattle.ids.proofs.Laws.{chosen_leaves}
 use Rattle.decl.specs.Decl.{rows_of, types_of, sizes_of, size_of}
 use Rattle.decl.specs.Places.{row_width}
 use Rattle.decl.specs.Lookup.{column_of}
-use Rattle.decl.specs.declared.Column.TheVariants.{At, Missing}
 use Rattle.cells.specs.Cell.{cell}
 use Rattle.cells.specs.Line.{width}
 use Rattle.handle.specs.declared.Place.{Place}
@@ -84,7 +84,7 @@ module _ {s : Store} (sound : Sound s) {a g n : ℕ} (run : List ℕ) (k : Spawn
       there : place_at left (number_in bits) ≡ place_of a (count_of w a)
       there = rw en settled.place_is
 
-      read_from_lem : length run ≡ row_width s.decl a → (c : ℕ) → column_of (types_of s.decl a) t ≡ At c
+      read_from_lem : length run ≡ row_width s.decl a → (c : ℕ) → column_of (types_of s.decl a) t ≡ Some c
           → read_bytes (with_chosen (without_old s n) a run g n) bits t ≡ granted (cell run (width (take c (sizes_of s.decl a))) (size_of s.decl a c))
       read_from_lem long c e =
           subst (λ (z : Store). read_bytes (with_chosen z a run g n) bits t ≡ granted (cell run (width (take c (sizes_of s.decl a))) (size_of s.decl a c))) (sym q)
@@ -93,7 +93,7 @@ module _ {s : Store} (sound : Sound s) {a g n : ℕ} (run : List ℕ) (k : Spawn
           (rw (archetype_is left (number_in bits) a (count_of w a) there, row_is left (number_in bits) a (count_of w a) there)
           (taken_run s.decl w a n run ready k.archetype_in room long c (column_in s.decl a t c ready.tabled.kept e))))
 
-      lacks_from : column_of (types_of s.decl a) t ≡ Missing → read_bytes (with_chosen (without_old s n) a run g n) bits t ≡ refused 15
+      lacks_from : column_of (types_of s.decl a) t ≡ None → read_bytes (with_chosen (without_old s n) a run g n) bits t ≡ refused 15
       lacks_from e =
           subst (λ (z : Store). read_bytes (with_chosen z a run g n) bits t ≡ refused 15) (sym q)
           (read_missing after bits t (λ x. nz (sym eg ∙ x)) alive (rw (archetype_is left (number_in bits) a (count_of w a) there) e))
@@ -123,7 +123,7 @@ module _ {s : Store} (sound : Sound s) {a g n : ℕ} (run : List ℕ) (k : Spawn
           others_from s.ids s.rows (none_left s n e) sound.ids (sound_entered sound).rows other t ne refl
           (λ m. (record { archetype_same = refl; held_same = λ c h. refl }, seat_of sound (number_in other) m, m.0))
 
-  pub spawn_at_read : (bits t : ℕ) → generation_in bits ≡ g → number_in bits ≡ n → length run ≡ row_width s.decl a → (c : ℕ) → column_of (types_of s.decl a) t ≡ At c
+  pub spawn_at_read : (bits t : ℕ) → generation_in bits ≡ g → number_in bits ≡ n → length run ≡ row_width s.decl a → (c : ℕ) → column_of (types_of s.decl a) t ≡ Some c
       → read_bytes (with_chosen (without_old s n) a run g n) bits t ≡ granted (cell run (width (take c (sizes_of s.decl a))) (size_of s.decl a c))
   spawn_at_read bits t eg en long c h = by (chosen_live s.ids n) refl
     where
@@ -131,7 +131,7 @@ module _ {s : Store} (sound : Sound s) {a g n : ℕ} (run : List ℕ) (k : Spawn
       by true e = read_from_lem (vac e) (gone e) (over_is e) (vacant_ids sound (l e)) (vacant_ready sound (l e)) bits t eg en long c h
       by false e = read_from_lem s.ids s.rows (none_left s n e) sound.ids (sound_entered sound).rows bits t eg en long c h
 
-  pub spawn_at_lacks : (bits t : ℕ) → generation_in bits ≡ g → number_in bits ≡ n → column_of (types_of s.decl a) t ≡ Missing → read_bytes (with_chosen (without_old s n) a run g n) bits t ≡ refused 15
+  pub spawn_at_lacks : (bits t : ℕ) → generation_in bits ≡ g → number_in bits ≡ n → column_of (types_of s.decl a) t ≡ None → read_bytes (with_chosen (without_old s n) a run g n) bits t ≡ refused 15
   spawn_at_lacks bits t eg en h = by (chosen_live s.ids n) refl
     where
       by : (b : Bool) → chosen_live s.ids n ≡ b → read_bytes (with_chosen (without_old s n) a run g n) bits t ≡ refused 15

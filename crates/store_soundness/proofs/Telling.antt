@@ -1,5 +1,6 @@
 -- What handles read after each call, as specs has it.
 -- Assumes nothing.
+use Rattle.std.specs.Prelude.{Option, Some, None}
 use Prim.{Unit, tt}
 use Prim.Native.Nat.{ℕ, zero, suc, ◌+◌, ◌-◌, ◌<◌}
 use native.Mathlib.Nat.{not-suc-le-zero, le_of_suc-le-suc}
@@ -26,8 +27,6 @@ use Rattle.id_batches.specs.Reserve.{recycled, fresh, old_handles, new_handles, 
 use Rattle.id_batches.proofs.Handed.{new_is}
 use Rattle.decl.specs.Decl.{archetypes, first_column, types_of}
 use Rattle.decl.specs.Lookup.{column_of}
-use Rattle.decl.specs.declared.Column.{Column}
-use Rattle.decl.specs.declared.Column.TheVariants.{At, Missing}
 use Rattle.cells.specs.Cell.{cell}
 use Rattle.columns.proofs.Cells.{held_is}
 use Rattle.store_tables.specs.Store.{Store, with_words}
@@ -69,14 +68,14 @@ same_value e = cc
 
 -- Borrow and release: one word changes.
 module _ {s : Store} (sound : Sound s) (at w other kind : ℕ)
-    (apart : (j : ℕ) → column_for s other kind ≡ At j → first_column s.decl (archetype_of s (number_in other)) + j ≡ at → ⊥) where
+    (apart : (j : ℕ) → column_for s other kind ≡ Some j → first_column s.decl (archetype_of s (number_in other)) + j ≡ at → ⊥) where
   abbrev after : Store
   after = with_words s (set s.words at w)
 
-  same_word : (c : Column) → column_for s other kind ≡ c
+  same_word : (c : Option ℕ) → column_for s other kind ≡ c
       → word_in s.decl (set s.words at w) (archetype_of s (number_in other)) c ≡ word_in s.decl s.words (archetype_of s (number_in other)) c
-  same_word (At j) e = get_or-set_other s.words at (first_column s.decl (archetype_of s (number_in other)) + j) w 0 (apart j e)
-  same_word Missing e = refl
+  same_word (Some j) e = get_or-set_other s.words at (first_column s.decl (archetype_of s (number_in other)) + j) w 0 (apart j e)
+  same_word None e = refl
 
   after_sound : Sound after
   after_sound = words_sound sound (set s.words at w) (length-set s.words at w)
@@ -94,7 +93,7 @@ module _ {s : Store} (sound : Sound s) (at w other kind : ℕ)
       ∙ sym (reading_lines s (sound_entered sound) other kind (own sound g n)))
 
 module _ (rule : ℕ → Answer ℕ) {s : Store} (sound : Sound s) (a type : ℕ) (t : Store) where
-  abbrev col : Column
+  abbrev col : Option ℕ
   col = column_of (types_of s.decl a) type
 
   by_word : (k : Answer ℕ) → granted (tt, t) ≡ word_stored s (place_in s.decl a col) k → (w : ℕ) × (t ≡ with_words s (set s.words (place_in s.decl a col) w))
@@ -102,7 +101,7 @@ module _ (rule : ℕ → Answer ℕ) {s : Store} (sound : Sound s) (a type : ℕ
   by_word (refused n) e = absurd (not_refused e)
 
   pub hold_others : granted (tt, t) ≡ holding rule s a type → (other kind : ℕ)
-      → ((j : ℕ) → column_for s other kind ≡ At j → first_column s.decl (archetype_of s (number_in other)) + j ≡ place_in s.decl a (column_of (types_of s.decl a) type) → ⊥)
+      → ((j : ℕ) → column_for s other kind ≡ Some j → first_column s.decl (archetype_of s (number_in other)) + j ≡ place_in s.decl a (column_of (types_of s.decl a) type) → ⊥)
       → read_bytes t other kind ≡ read_bytes s other kind
   hold_others e other kind apart =
       let p = passed_all (6 when leb (archetypes s.decl) a ∷ 15 when is_missing col ∷ []) _ (e ∙ holding_lines rule s a type (sound_entered sound)) in

@@ -1,5 +1,6 @@
 -- Reads by the handle that a call names: after spawn the bytes that were given, after despawn 2.
 -- Assumes nothing.
+use Rattle.std.specs.Prelude.{Some, None}
 use Prim.Native.Nat.{ℕ, zero, suc, ◌+◌, ◌<◌, ◌≤◌, ◌^◌}
 use native.Mathlib.Omega.{arith}
 use mathlib.Core.Path.{◌≡◌, sym, ap, ◌∙◌}
@@ -21,7 +22,6 @@ use Rattle.ids.proofs.Listing.{below_or_not}
 use Rattle.decl.specs.Decl.{types_of, sizes_of, size_of}
 use Rattle.decl.specs.Places.{row_width}
 use Rattle.decl.specs.Lookup.{column_of}
-use Rattle.decl.specs.declared.Column.TheVariants.{At, Missing}
 use Rattle.cells.specs.Cell.{cell}
 use Rattle.cells.specs.Line.{width}
 use Rattle.row_step.specs.Tables.{count_of}
@@ -99,7 +99,7 @@ module _ {s : Store} (sound : Sound s) {a : ℕ} (k : SpawnOk s a) (run : List �
   in_archetype : archetype_at left (number_in bits) ≡ a
   in_archetype = archetype_is left (number_in bits) a (count_of s.rows a) there
 
-  pub spawn_read : length run ≡ row_width s.decl a → (c : ℕ) → column_of (types_of s.decl a) t ≡ At c
+  pub spawn_read : length run ≡ row_width s.decl a → (c : ℕ) → column_of (types_of s.decl a) t ≡ Some c
       → read_bytes (with_entity s a run) (next_ids s a).0 t ≡ granted (cell run (width (take c (sizes_of s.decl a))) (size_of s.decl a c))
   spawn_read long c e =
       read_held (spawned_sound sound k run) bits t nonzero alive c (rw in_archetype e) (not_unique s.words k.no_word _)
@@ -107,7 +107,7 @@ module _ {s : Store} (sound : Sound s) {a : ℕ} (k : SpawnOk s a) (run : List �
       (rw (in_archetype, row_is left (number_in bits) a (count_of s.rows a) there)
       (taken_run s.decl s.rows a (next_number s.ids) run (sound_entered sound).rows k.archetype_in k.row_unused long c (column_in s.decl a t c (sound_entered sound).rows.tabled.kept e)))
 
-  pub spawn_lacks : column_of (types_of s.decl a) t ≡ Missing → read_bytes (with_entity s a run) (next_ids s a).0 t ≡ refused 15
+  pub spawn_lacks : column_of (types_of s.decl a) t ≡ None → read_bytes (with_entity s a run) (next_ids s a).0 t ≡ refused 15
   spawn_lacks e = read_missing (spawned_sound sound k run) bits t nonzero alive (rw in_archetype e)
 
 -- Despawn: its handle reads 2.

@@ -1,4 +1,5 @@
 -- What a read gives on sound tables, and what each granted call leaves of it: for the handles that the call names, and for every other.
+use Rattle.std.specs.Prelude.{Option, Some, None}
 use Prim.{tt}
 use Rattle.std.specs.Prelude.{ℕ, ◌+◌, ◌<◌, ◌≡◌, true, false, List, ◌++◌, length, get_or, take}
 use Rattle.refusal.specs.Table.{Answer, granted, refused}
@@ -10,8 +11,6 @@ use Rattle.id_batches.specs.Flush.{reserved_fresh}
 use Rattle.decl.specs.Decl.{first_column, types_of, sizes_of, size_of}
 use Rattle.decl.specs.Places.{cell_start}
 use Rattle.decl.specs.Lookup.{column_of}
-use Rattle.decl.specs.declared.Column.{Column}
-use Rattle.decl.specs.declared.Column.TheVariants.{At, Missing}
 use Rattle.cells.specs.Cell.{cell}
 use Rattle.cells.specs.Line.{width}
 use Rattle.store_tables.specs.Store.{Store}
@@ -33,7 +32,7 @@ unfoldable pub read_bytes : Store → ℕ → ℕ → Answer (List ℕ)
 read_bytes s bits type = reading s bits type and_then (λ p. granted (cell s.rows.bytes p.0 p.1))
 
 -- the column of a type in the archetype of the handle's place
-abbrev pub column_for : Store → ℕ → ℕ → Column
+abbrev pub column_for : Store → ℕ → ℕ → Option ℕ
 column_for s bits type = column_of (types_of s.decl (archetype_of s (number_in bits))) type
 
 -- Of a handle, whose generation is not 0:
@@ -43,9 +42,9 @@ pub record ReadsOf (s : Store) (bits type : ℕ) : Type 0 where
   -- a reserved new number: 15
   pub reserved : is_new s.ids bits ≡ true → read_bytes s bits type ≡ refused 15
   -- live, in an archetype that lacks the component: 15
-  pub lacks : is_live s.ids bits ≡ true → column_for s bits type ≡ Missing → read_bytes s bits type ≡ refused 15
+  pub lacks : is_live s.ids bits ≡ true → column_for s bits type ≡ None → read_bytes s bits type ≡ refused 15
   -- live, with the component: the bytes of its own row, unless its column is borrowed uniquely
-  pub holds : is_live s.ids bits ≡ true → (j : ℕ) → column_for s bits type ≡ At j
+  pub holds : is_live s.ids bits ≡ true → (j : ℕ) → column_for s bits type ≡ Some j
       → is_unique (get_or s.words (first_column s.decl (archetype_of s (number_in bits)) + j) 0) ≡ false
       → read_bytes s bits type ≡ granted (cell s.rows.bytes (cell_start s.decl (archetype_of s (number_in bits)) j (row_of s (number_in bits))) (size_of s.decl (archetype_of s (number_in bits)) j))
 
@@ -66,7 +65,7 @@ pub record OthersRead (s : Store) : Type 0 where
       → (other kind : ℕ) → (other ≡ bits → kind ≡ type → ⊥) → read_bytes t other kind ≡ read_bytes s other kind
   -- but components of the column that is borrowed or released
   pub hold : (rule : ℕ → Answer ℕ) (a type : ℕ) (t : Store) → granted (tt, t) ≡ holding rule s a type
-      → (other kind : ℕ) → ((j : ℕ) → column_for s other kind ≡ At j → first_column s.decl (archetype_of s (number_in other)) + j ≡ place_in s.decl a (column_of (types_of s.decl a) type) → ⊥)
+      → (other kind : ℕ) → ((j : ℕ) → column_for s other kind ≡ Some j → first_column s.decl (archetype_of s (number_in other)) + j ≡ place_in s.decl a (column_of (types_of s.decl a) type) → ⊥)
       → read_bytes t other kind ≡ read_bytes s other kind
   -- but the handle that is given
   pub reserve_one : (bits : ℕ) (t : Store) → granted (bits, t) ≡ reserving s
@@ -82,9 +81,9 @@ pub record OthersRead (s : Store) : Type 0 where
 pub record NamedRead (s : Store) : Type 0 where
   -- the run that was given, in column order, and 15 for a type that the archetype lacks
   pub spawn : (a : ℕ) (run : List ℕ) (bits : ℕ) (t : Store) → granted (bits, t) ≡ spawning s a run
-      → (type j : ℕ) → column_of (types_of s.decl a) type ≡ At j → read_bytes t bits type ≡ granted (cell run (width (take j (sizes_of s.decl a))) (size_of s.decl a j))
+      → (type j : ℕ) → column_of (types_of s.decl a) type ≡ Some j → read_bytes t bits type ≡ granted (cell run (width (take j (sizes_of s.decl a))) (size_of s.decl a j))
   pub spawn_lacks : (a : ℕ) (run : List ℕ) (bits : ℕ) (t : Store) → granted (bits, t) ≡ spawning s a run
-      → (type : ℕ) → column_of (types_of s.decl a) type ≡ Missing → read_bytes t bits type ≡ refused 15
+      → (type : ℕ) → column_of (types_of s.decl a) type ≡ None → read_bytes t bits type ≡ refused 15
   -- no such entity
   pub despawn : (bits : ℕ) (t : Store) → granted (tt, t) ≡ despawning s bits → (type : ℕ) → read_bytes t bits type ≡ refused 2
   -- the value that was written

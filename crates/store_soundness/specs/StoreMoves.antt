@@ -1,4 +1,5 @@
 -- Spawn at, insert and remove on sound tables, in the same words as StoreCalls and Reads.
+use Rattle.std.specs.Prelude.{Some, None}
 use Prim.{tt}
 use Rattle.std.specs.Prelude.{ℕ, ◌≡◌, not, ◌&&◌, List, [], ◌∷◌, leb, eqb, length, take}
 use Rattle.refusal.specs.Table.{◌when◌, granted, refused}
@@ -8,7 +9,6 @@ use Rattle.id_tables.specs.Head.{flushed}
 use Rattle.id_tables.specs.Ids.{capacity}
 use Rattle.decl.specs.Decl.{archetypes, rows_of, types_of, sizes_of, size_of}
 use Rattle.decl.specs.Lookup.{column_of}
-use Rattle.decl.specs.declared.Column.TheVariants.{At, Missing}
 use Rattle.cells.specs.Cell.{cell}
 use Rattle.cells.specs.Line.{width}
 use Rattle.row_step.specs.Tables.{count_of}
@@ -59,9 +59,9 @@ pub record OthersRead (s : Store) : Type 0 where
 pub record NamedRead (s : Store) : Type 0 where
   -- the run that was given, in column order, and 15 for a type that the archetype lacks
   pub spawn_at : (bits a : ℕ) (run : List ℕ) (t : Store) → granted (tt, t) ≡ spawning_at s bits a run
-      → (type j : ℕ) → column_of (types_of s.decl a) type ≡ At j → read_bytes t bits type ≡ granted (cell run (width (take j (sizes_of s.decl a))) (size_of s.decl a j))
+      → (type j : ℕ) → column_of (types_of s.decl a) type ≡ Some j → read_bytes t bits type ≡ granted (cell run (width (take j (sizes_of s.decl a))) (size_of s.decl a j))
   pub spawn_at_lacks : (bits a : ℕ) (run : List ℕ) (t : Store) → granted (tt, t) ≡ spawning_at s bits a run
-      → (type : ℕ) → column_of (types_of s.decl a) type ≡ Missing → read_bytes t bits type ≡ refused 15
+      → (type : ℕ) → column_of (types_of s.decl a) type ≡ None → read_bytes t bits type ≡ refused 15
   -- the value that was inserted, and its other components as before
   pub insert : (bits type : ℕ) (value : List ℕ) (t : Store) → granted (tt, t) ≡ inserting s bits type value → read_bytes t bits type ≡ granted value
   pub insert_keeps : (bits type : ℕ) (value : List ℕ) (t : Store) → granted (tt, t) ≡ inserting s bits type value

@@ -39,36 +39,37 @@ new_next count b z = rw (le-ltb 0 count (omega arith))
 pub last_next : (used : ℕ) (g x : List ℕ) (count n m : ℕ) (r : Bool) → (count ≡ 0 → ⊥) → r ≡ damaged_in used g x n → n ≡ m → r ≡ (ltb 0 count && damaged_in used g x m)
 last_next used g x count n m r z e q = rw (lt-ltb 0 count (pos_of_ne-zero z), ← q) e
 
+-- each test as the code has seen it
 module _ (s : Store) (a : ℕ) where
-  pub unflushed : flushed s.ids.head ≡ false → refused 3 ≡ passing (spawn_rules s a)
+  pub unflushed : false ≡ flushed s.ids.head → refused 3 ≡ passing (spawn_rules s a)
   unfolding spawn_rules ◌or_else◌
-  unflushed f = rw f
+  unflushed t = rw (← t)
 
-  module _ (f : flushed s.ids.head ≡ true) where
+  module _ (f : true ≡ flushed s.ids.head) where
     pub undeclared : archetypes s.decl ≤ a → refused 6 ≡ passing (spawn_rules s a)
     unfolding spawn_rules ◌or_else◌
-    undeclared h = rw (f, le-leb _ _ h)
+    undeclared t = rw (← f, le-leb _ _ t)
 
     module _ (h : a < archetypes s.decl) where
-      pub held : any_held s.words ≡ true → refused 8 ≡ passing (spawn_rules s a)
+      pub held : true ≡ any_held s.words → refused 8 ≡ passing (spawn_rules s a)
       unfolding spawn_rules ◌or_else◌
-      held w = rw (f, lt-leb _ _ h, w)
+      held t = rw (← f, lt-leb _ _ h, ← t)
 
-      module _ (w : any_held s.words ≡ false) where
-        pub no_number : ltb (room s.ids) 1 ≡ true → refused 4 ≡ passing (spawn_rules s a)
+      module _ (w : false ≡ any_held s.words) where
+        pub no_number : true ≡ ltb (room s.ids) 1 → refused 4 ≡ passing (spawn_rules s a)
         unfolding spawn_rules ◌or_else◌
-        no_number m = rw (f, lt-leb _ _ h, w, m)
+        no_number t = rw (← f, lt-leb _ _ h, ← w, ← t)
 
-        module _ (m : ltb (room s.ids) 1 ≡ false) (rows count : ℕ) (p : rows ≡ rows_of s.decl a) (q : count ≡ count_of s.rows a) where
+        module _ (m : false ≡ ltb (room s.ids) 1) (rows count : ℕ) (p : rows ≡ rows_of s.decl a) (q : count ≡ count_of s.rows a) where
           pub no_row : rows ≤ count → refused 4 ≡ passing (spawn_rules s a)
           unfolding spawn_rules ◌or_else◌
-          no_row l = rw (f, lt-leb _ _ h, w, m, ← p, ← q, le-leb _ _ l)
+          no_row t = rw (← f, lt-leb _ _ h, ← w, ← m, ← p, ← q, le-leb _ _ t)
 
           module _ (l : count < rows) where
-            pub next_bad : next_damaged s.ids ≡ true → refused 1 ≡ passing (spawn_rules s a)
+            pub next_bad : true ≡ next_damaged s.ids → refused 1 ≡ passing (spawn_rules s a)
             unfolding spawn_rules ◌or_else◌
-            next_bad t = rw (f, lt-leb _ _ h, w, m, ← p, ← q, lt-leb _ _ l, t)
+            next_bad t = rw (← f, lt-leb _ _ h, ← w, ← m, ← p, ← q, lt-leb _ _ l, ← t)
 
-            pub passes : next_damaged s.ids ≡ false → granted tt ≡ passing (spawn_rules s a)
+            pub passes : false ≡ next_damaged s.ids → granted tt ≡ passing (spawn_rules s a)
             unfolding spawn_rules ◌or_else◌
-            passes t = rw (f, lt-leb _ _ h, w, m, ← p, ← q, lt-leb _ _ l, t)
+            passes t = rw (← f, lt-leb _ _ h, ← w, ← m, ← p, ← q, lt-leb _ _ l, ← t)

@@ -1,2 +1,3 @@
--- The rule of spawn.
+-- The rule of spawn, and what its tests find.
 pub mod Spawn
+pub mod Seen

@@ -2,24 +2,24 @@
 #![tactic(auto)]
 
 ghost use Rattle.std.specs.Prelude.{true, ◌≡◌, ◌≤◌, ltb};
-ghost use Rattle.refusal.specs.Table.{Did, test_of, passing};
+ghost use Rattle.refusal.specs.Table.{Did, answer_of, passing};
+ghost use Rattle.handle.specs.Bits.{handle_of};
 ghost use Rattle.id_tables.specs.Head.{flushed, room_in};
-ghost use Rattle.id_tables.specs.Ids.{ids_of};
-ghost use Rattle.ids.specs.Answers.{given_of, given_head};
-ghost use Rattle.decl.specs.Decl.{decl_of};
-ghost use Rattle.decl.specs.Places.{span_of};
-ghost use Rattle.row_step.specs.Tables.{tables_of};
-ghost use Rattle.store_tables.specs.Store.{store_of};
+ghost use Rattle.id_tables.specs.Ids.{ids_in, ids_of};
+ghost use Rattle.decl.specs.Decl.{decl_in};
+ghost use Rattle.row_step.specs.Tables.{rows_in, tables_of};
+ghost use Rattle.store_tables.specs.Store.{store_in, store_of};
 ghost use Rattle.store_tables.specs.Kept.{Entered};
-ghost use Rattle.store_spawn.specs.Spawn.{next_damaged, spawn_rules, Spawnable, spawned, spawning};
+ghost use Rattle.store_spawn.specs.Spawn.{next_damaged, spawn_rules, spawning};
+ghost use Rattle.store_spawn.specs.Seen.{Admits};
 
 use borrow_word::any_held;
-use decl::Span;
-use handle::{Place, Row};
-use id_tables::{Head, at, is_damaged};
-use ids::Given;
-use refusal::{Refusal, Tested};
-use store_tables::is_run_wrong;
+use decl::{Declaration, Span};
+use handle::{Handle, Place, Row};
+use id_tables::{Head, IdTables, at};
+use refusal::Refusal;
+use row_step::RowTables;
+use store_tables::{StoreTables, is_run_wrong};
 
 // Whether no number is left, where nothing is reserved.
 fn is_full(head: Head, capacity: usize) -> bool
@@ -34,70 +34,75 @@ fn is_full(head: Head, capacity: usize) -> bool
 }
 
 // Whether the next number is a pending one that is damaged.
-fn is_next_damaged(
-    head: Head,
-    generations: &[u32],
-    archetypes: &[u32],
-    indices: &[u32],
-    pending: &[u32],
-) -> bool
-    ensures { result ≡ next_damaged (ids_of head generations.now archetypes.now indices.now pending.now) }
+fn is_next_damaged(ids: &IdTables<'_>) -> bool
+    ensures { result ≡ next_damaged (ids_in ids.now) }
 {
+    let head = ids.head;
     if head.pending == 0 {
         return false;
     }
-    let last = at(pending, head.pending - 1);
-    is_damaged(head.used, generations, indices, last as usize)
+    let last = at(ids.pending, head.pending - 1);
+    ids.is_damaged(last as usize)
 }
 
 // What a spawn tests after the first tests.
-fn spawn_tested(
-    head: Head,
-    rows: &[u32],
-    widths: &[u32],
-    types: &[u32],
-    sizes: &[u32],
-    generations: &[u32],
-    archetypes: &[u32],
-    indices: &[u32],
-    pending: &[u32],
-    numbers: &[u32],
-    counts: &[u32],
-    bytes: &[u8],
-    words: &[u64],
-    archetype: usize,
-) -> Tested
-    requires { Entered (store_of (decl_of rows.now widths.now types.now sizes.now) (ids_of head generations.now archetypes.now indices.now pending.now) (tables_of numbers.now counts.now bytes.now) words.now) }
-    ensures { test_of result ≡ passing (spawn_rules (store_of (decl_of rows.now widths.now types.now sizes.now) (ids_of head generations.now archetypes.now indices.now pending.now) (tables_of numbers.now counts.now bytes.now) words.now) archetype) }
+fn spawn_tested(store: &StoreTables<'_>, archetype: usize) -> Result<(), Refusal>
+    requires { Entered (store_in store.now) }
+    ensures { answer_of result ≡ passing (spawn_rules (store_in store.now) archetype) }
 {
+    let head = store.ids.head;
+    let rows = store.declaration.rows;
     if !head.is_flushed() {
-        return Tested::Refused(Refusal::NotFlushed);
+        return Err(Refusal::NotFlushed);
     }
     if rows.len() <= archetype {
-        return Tested::Refused(Refusal::BadPlace);
+        return Err(Refusal::BadPlace);
     }
-    if any_held(words) {
-        return Tested::Refused(Refusal::WordHeld);
+    if any_held(store.words) {
+        return Err(Refusal::WordHeld);
     }
-    if is_full(head, generations.len()) {
-        return Tested::Refused(Refusal::NoRoom);
+    if is_full(head, store.ids.generations.len()) {
+        return Err(Refusal::NoRoom);
     }
-    if at(rows, archetype) <= at(counts, archetype) {
-        return Tested::Refused(Refusal::NoRoom);
+    if at(rows, archetype) <= at(store.rows.counts, archetype) {
+        return Err(Refusal::NoRoom);
     }
-    if is_next_damaged(head, generations, archetypes, indices, pending) {
-        return Tested::Refused(Refusal::Damaged);
+    if is_next_damaged(&store.ids) {
+        return Err(Refusal::Damaged);
     }
-    Tested::Passed
+    Ok(())
+}
+
+// The part of the tables that the archetype of a spawn has, or why it is refused.
+fn span_for(
+    declaration: &Declaration<'_>,
+    ids: &IdTables<'_>,
+    rows: &RowTables<'_>,
+    words: &[u64],
+    archetype: usize,
+    run: &[u8],
+) -> Result<Span, Refusal>
+    ensures { let lent = store_of (decl_in declaration.now) (ids_in ids.now) (rows_in rows.now) words.now in
+        Admits lent archetype run.now result }
+{
+    let store = StoreTables {
+        declaration: *declaration,
+        ids: *ids,
+        rows: *rows,
+        words,
+    };
+    let span = column_entry::span(declaration, archetype);
+    let declared = declaration.rows.len();
+    let short = is_run_wrong(declared, archetype, run.len(), span.bytes);
+    store.tested(short)?;
+    spawn_tested(&store, archetype)?;
+    Ok(span)
 }
 
 // The next number takes the first unused row.
 fn take_row(
-    head: Head,
-    rows: &[u32],
-    widths: &[u32],
-    types: &[u32],
-    sizes: &[u32],
+    head: &mut Head,
+    declaration: &Declaration<'_>,
     generations: &mut [u32],
     archetypes: &mut [u32],
     indices: &mut [u32],
@@ -109,48 +114,28 @@ fn take_row(
     archetype: u32,
     run: &[u8],
     span: Span,
-) -> Given
-    requires entered { Entered (store_of (decl_of rows.now widths.now types.now sizes.now) (ids_of head generations.old archetypes.old indices.old pending.now) (tables_of numbers.old counts.old bytes.old) words.now) }
-    requires spawnable { Spawnable (store_of (decl_of rows.now widths.now types.now sizes.now) (ids_of head generations.old archetypes.old indices.old pending.now) (tables_of numbers.old counts.old bytes.old) words.now) archetype }
-    requires span_value { span ≡ span_of (decl_of rows.now widths.now types.now sizes.now) archetype }
-    ensures { Did (spawned (store_of (decl_of rows.now widths.now types.now sizes.now) (ids_of head generations.old archetypes.old indices.old pending.now) (tables_of numbers.old counts.old bytes.old) words.now) archetype run.now) (store_of (decl_of rows.now widths.now types.now sizes.now) (ids_of head generations.old archetypes.old indices.old pending.now) (tables_of numbers.old counts.old bytes.old) words.now) (given_of result) (store_of (decl_of rows.now widths.now types.now sizes.now) (ids_of (given_head head result) generations.new archetypes.new indices.new pending.now) (tables_of numbers.new counts.new bytes.new) words.now) }
+) -> Result<Handle, Refusal>
+    requires { let lent = store_of (decl_in declaration.now) (ids_of head.old generations.old archetypes.old indices.old pending.now) (tables_of numbers.old counts.old bytes.old) words.now in
+        Admits lent archetype run.now (Ok span) }
+    ensures { let lent = store_of (decl_in declaration.now) (ids_of head.old generations.old archetypes.old indices.old pending.now) (tables_of numbers.old counts.old bytes.old) words.now in
+        let left = store_of (decl_in declaration.now) (ids_of head.new generations.new archetypes.new indices.new pending.now) (tables_of numbers.new counts.new bytes.new) words.now in
+        Did (spawning lent archetype run.now) lent (handle_of result) left }
 {
     let a = archetype as usize;
     let place = Place {
-        archetype: archetype,
+        archetype,
         index: Row(at(counts, a)),
     };
-    let Given::Entity(handle, left) = ids::alloc(
-        head,
-        generations,
-        archetypes,
-        indices,
-        pending,
-        place,
-    ) else {
-        return Given::Refused(Refusal::Damaged);
-    };
-    store_steps::seat(
-        rows,
-        sizes,
-        numbers,
-        counts,
-        bytes,
-        span,
-        a,
-        handle.id(),
-        run,
-    );
-    Given::Entity(handle, left)
+    let handle = ids::alloc(head, generations, archetypes, indices, pending, place)?;
+    let number = handle.id();
+    store_steps::seat(declaration, numbers, counts, bytes, span, a, number, run);
+    Ok(handle)
 }
 
-// Makes an entity of these components.
+// Makes an entity of these components. The tables stay slices: C lends `pending` const and others to be written, so no one struct can hold them.
 pub fn spawn(
-    head: Head,
-    rows: &[u32],
-    widths: &[u32],
-    types: &[u32],
-    sizes: &[u32],
+    head: &mut Head,
+    declaration: &Declaration<'_>,
     generations: &mut [u32],
     archetypes: &mut [u32],
     indices: &mut [u32],
@@ -161,54 +146,28 @@ pub fn spawn(
     words: &[u64],
     archetype: u32,
     run: &[u8],
-) -> Given
-    ensures { Did (spawning (store_of (decl_of rows.now widths.now types.now sizes.now) (ids_of head generations.old archetypes.old indices.old pending.now) (tables_of numbers.old counts.old bytes.old) words.now) archetype run.now) (store_of (decl_of rows.now widths.now types.now sizes.now) (ids_of head generations.old archetypes.old indices.old pending.now) (tables_of numbers.old counts.old bytes.old) words.now) (given_of result) (store_of (decl_of rows.now widths.now types.now sizes.now) (ids_of (given_head head result) generations.new archetypes.new indices.new pending.now) (tables_of numbers.new counts.new bytes.new) words.now) }
+) -> Result<Handle, Refusal>
+    ensures { let lent = store_of (decl_in declaration.now) (ids_of head.old generations.old archetypes.old indices.old pending.now) (tables_of numbers.old counts.old bytes.old) words.now in
+        let left = store_of (decl_in declaration.now) (ids_of head.new generations.new archetypes.new indices.new pending.now) (tables_of numbers.new counts.new bytes.new) words.now in
+        Did (spawning lent archetype run.now) lent (handle_of result) left }
 {
     let a = archetype as usize;
-    let span = column_entry::span(rows, widths, types, sizes, a);
-    let short = is_run_wrong(rows.len(), a, run.len(), span.bytes);
-    if let Tested::Refused(r) = store_tables::tested(
-        head,
-        rows,
-        widths,
-        types,
-        sizes,
+    let ids = IdTables {
+        head: *head,
         generations,
         archetypes,
         indices,
         pending,
+    };
+    let rows = RowTables {
         numbers,
         counts,
         bytes,
-        words,
-        short,
-    ) {
-        return Given::Refused(r);
-    }
-    if let Tested::Refused(r) = spawn_tested(
-        head,
-        rows,
-        widths,
-        types,
-        sizes,
-        generations,
-        archetypes,
-        indices,
-        pending,
-        numbers,
-        counts,
-        bytes,
-        words,
-        a,
-    ) {
-        return Given::Refused(r);
-    }
+    };
+    let span = span_for(declaration, &ids, &rows, words, a, run)?;
     take_row(
         head,
-        rows,
-        widths,
-        types,
-        sizes,
+        declaration,
         generations,
         archetypes,
         indices,

@@ -95,47 +95,48 @@ neither x true z e t = absurd (differ (sym e ∙ t))
 neither x false true e t = absurd (differ (sym e ∙ t))
 neither x false false e t = refl
 
+-- each test as the code has seen it
 module _ (s : Store) (a n : ℕ) where
-  pub unflushed : flushed s.ids.head ≡ false → refused 3 ≡ passing (spawn_at_rules s a n)
+  pub unflushed : false ≡ flushed s.ids.head → refused 3 ≡ passing (spawn_at_rules s a n)
   unfolding spawn_at_rules ◌or_else◌
-  unflushed f = rw f
+  unflushed t = rw (← t)
 
-  module _ (f : flushed s.ids.head ≡ true) where
+  module _ (f : true ≡ flushed s.ids.head) where
     pub undeclared : archetypes s.decl ≤ a → refused 6 ≡ passing (spawn_at_rules s a n)
     unfolding spawn_at_rules ◌or_else◌
-    undeclared h = rw (f, le-leb _ _ h)
+    undeclared t = rw (← f, le-leb _ _ t)
 
     module _ (h : a < archetypes s.decl) (st : Standing) (k : Stands s n st) where
-      pub strays : astray st ≡ true → refused 1 ≡ passing (spawn_at_rules s a n)
+      pub strays : true ≡ astray st → refused 1 ≡ passing (spawn_at_rules s a n)
       unfolding spawn_at_rules ◌or_else◌
-      strays q = rw (f, lt-leb _ _ h, ← astray_is s n st k, q)
+      strays t = rw (← f, lt-leb _ _ h, ← astray_is s n st k, ← t)
 
-      module _ (q : astray st ≡ false) where
-        pub held : any_held s.words ≡ true → refused 8 ≡ passing (spawn_at_rules s a n)
+      module _ (q : false ≡ astray st) where
+        pub held : true ≡ any_held s.words → refused 8 ≡ passing (spawn_at_rules s a n)
         unfolding spawn_at_rules ◌or_else◌
-        held w = rw (f, lt-leb _ _ h, ← astray_is s n st k, q, w)
+        held t = rw (← f, lt-leb _ _ h, ← astray_is s n st k, ← q, ← t)
 
-        module _ (w : any_held s.words ≡ false) where
+        module _ (w : false ≡ any_held s.words) where
           pub no_number : capacity s.ids ≤ n → refused 4 ≡ passing (spawn_at_rules s a n)
           unfolding spawn_at_rules ◌or_else◌
-          no_number l = rw (f, lt-leb _ _ h, ← astray_is s n st k, q, w, le-leb _ _ l)
+          no_number t = rw (← f, lt-leb _ _ h, ← astray_is s n st k, ← q, ← w, le-leb _ _ t)
 
           module _ (l : n < capacity s.ids) (e : Entered s) where
-            pub no_row : full_seen s.decl.rows s.rows.counts a st ≡ true → refused 4 ≡ passing (spawn_at_rules s a n)
+            pub no_row : true ≡ full_seen s.decl.rows s.rows.counts a st → refused 4 ≡ passing (spawn_at_rules s a n)
             unfolding spawn_at_rules ◌or_else◌
-            no_row t = rw (f, lt-leb _ _ h, ← astray_is s n st k, q, w, lt-leb _ _ l, ← full_is s n a e st k q, t)
+            no_row t = rw (← f, lt-leb _ _ h, ← astray_is s n st k, ← q, ← w, lt-leb _ _ l, ← full_is s n a e st k (sym q), ← t)
 
-            module _ (t : full_seen s.decl.rows s.rows.counts a st ≡ false) where
+            module _ (m : false ≡ full_seen s.decl.rows s.rows.counts a st) where
               abbrev harmed : Bool
               harmed = damaged_seen s.ids.head.used s.ids.archetypes s.ids.indices s.rows.numbers s.rows.counts st
 
-              pub bad : harmed ≡ true → refused 1 ≡ passing (spawn_at_rules s a n)
+              pub bad : true ≡ harmed → refused 1 ≡ passing (spawn_at_rules s a n)
               unfolding spawn_at_rules ◌or_else◌
-              bad d = rw (f, lt-leb _ _ h, ← astray_is s n st k, q, w, lt-leb _ _ l, ← full_is s n a e st k q, t) (either harmed (chosen_damaged s.ids n) (chosen_live s.ids n && moved_damaged s (archetype_of s n) (row_of s n)) (damaged_is s n st k q) d)
+              bad t = rw (← f, lt-leb _ _ h, ← astray_is s n st k, ← q, ← w, lt-leb _ _ l, ← full_is s n a e st k (sym q), ← m) (either harmed (chosen_damaged s.ids n) (chosen_live s.ids n && moved_damaged s (archetype_of s n) (row_of s n)) (damaged_is s n st k (sym q)) (sym t))
 
-              pub passes : harmed ≡ false → granted tt ≡ passing (spawn_at_rules s a n)
+              pub passes : false ≡ harmed → granted tt ≡ passing (spawn_at_rules s a n)
               unfolding spawn_at_rules ◌or_else◌
-              passes d = rw (f, lt-leb _ _ h, ← astray_is s n st k, q, w, lt-leb _ _ l, ← full_is s n a e st k q, t) (neither harmed (chosen_damaged s.ids n) (chosen_live s.ids n && moved_damaged s (archetype_of s n) (row_of s n)) (damaged_is s n st k q) d)
+              passes t = rw (← f, lt-leb _ _ h, ← astray_is s n st k, ← q, ← w, lt-leb _ _ l, ← full_is s n a e st k (sym q), ← m) (neither harmed (chosen_damaged s.ids n) (chosen_live s.ids n && moved_damaged s (archetype_of s n) (row_of s n)) (damaged_is s n st k (sym q)) (sym t))
 
   -- tests that passed found no number astray
   pub not_astray : (st : Standing) → Stands s n st → granted tt ≡ passing (spawn_at_rules s a n) → astray st ≡ false

@@ -1,16 +1,14 @@
 -- What the tests of a spawn at find of the chosen number, and how its steps hand it on.
 use Prim.{tt}
-use Rattle.std.specs.Prelude.{ℕ, ◌≡◌, Bool, true, false, not, ◌&&◌, List, leb, eqb, get_or}
+use Rattle.std.specs.Prelude.{ℕ, ◌≡◌, Bool, true, false, not, ◌&&◌, List, leb, eqb, get_or, Option, Result, Ok, Err}
 use Rattle.refusal.specs.Number.{number_of}
 use Rattle.refusal.specs.Table.{granted, refused, passing, Did}
+use Rattle.refusal.specs.declared.Refusal.{Refusal}
 use Rattle.handle.specs.Bits.{place_of, generation_in, number_in}
+use Rattle.handle.specs.declared.Number.{Number}
 use Rattle.handle.specs.declared.Place.{Place}
 use Rattle.id_tables.specs.declared.head.Head.{Head}
-use Rattle.id_tables.specs.declared.lookup.Done.{Done}
-use Rattle.id_tables.specs.declared.lookup.Done.TheVariants as done
 use Rattle.id_tables.specs.Ids.{Ids, ids_of, place_at}
-use Rattle.ids.specs.declared.Chosen.{Chosen}
-use Rattle.ids.specs.declared.Chosen.TheVariants as chosen
 use Rattle.ids.specs.Answers.{chosen_of}
 use Rattle.ids.specs.AllocAt.{chosen_damaged, allocating_at}
 use Rattle.decl.specs.Places.{span_of}
@@ -24,8 +22,6 @@ use Rattle.store_tables.specs.Seen.{moved_seen}
 use Rattle.store_tables.specs.Kept.{Entered}
 use Rattle.store_spawn_at.specs.declared.Standing.{Standing}
 use Rattle.store_spawn_at.specs.declared.Standing.TheVariants.{Free, Damaged, Seated, Astray}
-use Rattle.store_spawn_at.specs.declared.Choice.{Choice}
-use Rattle.store_spawn_at.specs.declared.Choice.TheVariants as choice
 use Rattle.store_spawn_at.specs.SpawnAt.{chosen_live, without_old, spawn_at_rules, row_taken, spawning_at}
 
 -- what is found, in the rule's words
@@ -37,16 +33,16 @@ Stands s n (Seated span place) =
 Stands s n Astray = (chosen_live s.ids n ≡ true) × (owns s n ≡ false)
 
 -- the tests of the number have passed and it is this, or the first that has not gives its number
-unfoldable pub Chooses : Store → ℕ → ℕ → Choice → Type 0
-Chooses s a n (choice.Granted number standing) = Stands s n standing × (granted tt ≡ passing (spawn_at_rules s a n)) × (number.0 ≡ n)
-Chooses s a n (choice.Refused r) = refused (number_of r) ≡ passing (spawn_at_rules s a n)
+unfoldable pub Chooses : Store → ℕ → ℕ → Result (Number × Standing) Refusal → Type 0
+Chooses s a n (Ok chosen) = Stands s n chosen.1 × (granted tt ≡ passing (spawn_at_rules s a n)) × (chosen.0.0 ≡ n)
+Chooses s a n (Err r) = refused (number_of r) ≡ passing (spawn_at_rules s a n)
 
 -- and of a handle's bits: why it is refused, or what the number is where it is not
-unfoldable pub Picks : Store → ℕ → ℕ → List ℕ → Choice → Type 0
-Picks s bits a run (choice.Granted number standing) =
-    Entered s × (generation_in bits ≡ 0 → ⊥) × Chooses s a (number_in bits) (choice.Granted number standing)
+unfoldable pub Picks : Store → ℕ → ℕ → List ℕ → Result (Number × Standing) Refusal → Type 0
+Picks s bits a run (Ok chosen) =
+    Entered s × (generation_in bits ≡ 0 → ⊥) × Chooses s a (number_in bits) (Ok chosen)
     × (spawning_at s bits a run ≡ row_taken (without_old s (number_in bits)) a run (generation_in bits) (number_in bits))
-Picks s bits a run (choice.Refused r) = spawning_at s bits a run ≡ refused (number_of r)
+Picks s bits a run (Err r) = spawning_at s bits a run ≡ refused (number_of r)
 
 abbrev pub astray : Standing → Bool
 astray Free = false
@@ -88,12 +84,6 @@ pub record Reseats (k : Block) (sizes : List ℕ) (t : Seats) (a n : ℕ) (run :
   pub place_is : place ≡ place_of a (count_of t.rows a)
 
 -- and the id layer gives the number that place: what it said, and what is left then
-pub record Settles (k : Block) (sizes : List ℕ) (t : Seats) (head : Head) (generations pending : List ℕ) (a bits n : ℕ) (run : List ℕ) (said : Chosen) (i : Ids) (w : Rows) : Type 0 where
+pub record Settles (k : Block) (sizes : List ℕ) (t : Seats) (head : Head) (generations pending : List ℕ) (a bits n : ℕ) (run : List ℕ) (said : Result (Option Place) Refusal) (i : Ids) (w : Rows) : Type 0 where
   pub settles : Did (allocating_at (ids_of head generations t.archetypes t.indices pending) bits (place_of a (count_of t.rows a))) (ids_of head generations t.archetypes t.indices pending) (chosen_of said) i
   pub rows_are : w ≡ seated_rows k sizes t.rows a n run
-
--- the head of the id layer's answer, which is all that is answered
-abbrev pub done_by : Chosen → Done
-done_by (chosen.Fresh head) = done.Granted head
-done_by (chosen.Over head place) = done.Granted head
-done_by (chosen.Refused r) = done.Refused r

@@ -2,30 +2,30 @@
 #![tactic(auto)]
 
 ghost use Rattle.std.specs.Prelude.{◌≡◌};
-ghost use Rattle.refusal.specs.Table.{Did};
+ghost use Rattle.refusal.specs.Table.{Did, answer_of};
 ghost use Rattle.handle.specs.Bits.{number_in};
-ghost use Rattle.id_tables.specs.Ids.{ids_of};
-ghost use Rattle.id_tables.specs.Lookup.{done_of, head_after};
-ghost use Rattle.ids.specs.Answers.{chosen_head};
-ghost use Rattle.decl.specs.Decl.{decl_of};
-ghost use Rattle.row_step.specs.Tables.{tables_of};
+ghost use Rattle.id_tables.specs.Ids.{ids_in, ids_of};
+ghost use Rattle.decl.specs.Decl.{decl_in};
+ghost use Rattle.row_step.specs.Tables.{rows_in, tables_of};
 ghost use Rattle.column_entry.specs.Entry.{span_in};
 ghost use Rattle.store_steps.specs.Parts.{block_by, part_by};
 ghost use Rattle.store_steps.specs.Seats.{seats_of};
-ghost use Rattle.store_tables.specs.Store.{store_of};
+ghost use Rattle.store_tables.specs.Store.{store_in, store_of};
 ghost use Rattle.store_tables.specs.Kept.{Entered};
 ghost use Rattle.store_spawn_at.specs.SpawnAt.{spawning_at};
-ghost use Rattle.store_spawn_at.specs.Seen.{Stands, Chooses, astray, leaving_from, full_seen, damaged_seen, Picks, cleared_seats, Reseats, Settles, done_by};
+ghost use Rattle.store_spawn_at.specs.Seen.{Stands, Chooses, astray, leaving_from, full_seen, damaged_seen, Picks, cleared_seats, Reseats, Settles};
 
 use borrow_word::any_held;
-use decl::Span;
-use handle::{Bits, Handle, MAX, Number, Place, Row};
-use id_tables::{Done, Head, at, is_damaged};
-use ids::{Chosen, is_pending};
-use refusal::{Refusal, Tested};
-use store_tables::{Own, is_moved_damaged, is_run_wrong, own_place};
+use decl::{Declaration, Span};
+use handle::{Handle, MAX, Number, Place, Row};
+use id_tables::{Head, IdTables, at};
+use ids::is_pending;
+use refusal::Refusal;
+use row_step::RowTables;
+use store_tables::{StoreTables, is_run_wrong};
 
 // What the chosen number is: it is not live and can be taken, or its entry is damaged; it is live in a row of its own, whose archetype has this part of the tables, or no row is its own.
+// An enum and no Result of an Option: the second and the last refuse with one number, but the rule has other tests between the two.
 #[derive(Clone, Copy)]
 enum Standing {
     Free,
@@ -34,52 +34,27 @@ enum Standing {
     Astray,
 }
 
-// The chosen number and what it is, once every test has passed.
-#[derive(Clone, Copy)]
-enum Choice {
-    Granted(Number, Standing),
-    Refused(Refusal),
-}
-
 // Finds what the chosen number is.
-fn standing_of(
-    head: Head,
-    rows: &[u32],
-    widths: &[u32],
-    types: &[u32],
-    sizes: &[u32],
-    generations: &[u32],
-    archetypes: &[u32],
-    indices: &[u32],
-    pending: &[u32],
-    numbers: &[u32],
-    counts: &[u32],
-    bytes: &[u8],
-    words: &[u64],
-    number: Number,
-) -> Standing
-    requires { Entered (store_of (decl_of rows.now widths.now types.now sizes.now) (ids_of head generations.now archetypes.now indices.now pending.now) (tables_of numbers.now counts.now bytes.now) words.now) }
-    ensures { Stands (store_of (decl_of rows.now widths.now types.now sizes.now) (ids_of head generations.now archetypes.now indices.now pending.now) (tables_of numbers.now counts.now bytes.now) words.now) number.0 result }
+fn standing_of(store: &StoreTables<'_>, number: Number) -> Standing
+    requires { Entered (store_in store.now) }
+    ensures { Stands (store_in store.now) number.0 result }
 {
     let n = number.0 as usize;
+    let head = store.ids.head;
     if head.used <= n {
         return Standing::Free;
     }
-    if is_pending(head, pending, number) {
-        if is_damaged(head.used, generations, indices, n) {
+    if is_pending(head, store.ids.pending, number) {
+        if store.ids.is_damaged(n) {
             return Standing::Damaged;
         }
         return Standing::Free;
     }
-    let index = at(indices, n);
-    if index == MAX {
+    let place = store.ids.place_at(n);
+    if place.index == Row(MAX) {
         return Standing::Damaged;
     }
-    let place = Place {
-        archetype: at(archetypes, n),
-        index: Row(index),
-    };
-    let Own::At(span) = own_place(rows, widths, types, sizes, numbers, counts, place, number) else {
+    let Some(span) = store.own_place(place, number) else {
         return Standing::Astray;
     };
     Standing::Seated(span, place)
@@ -89,12 +64,7 @@ fn standing_of(
 fn is_astray(standing: Standing) -> bool
     ensures { result ≡ astray standing }
 {
-    match standing {
-        Standing::Astray => true,
-        Standing::Seated(_, _) => false,
-        Standing::Free => false,
-        Standing::Damaged => false,
-    }
+    matches!(standing, Standing::Astray)
 }
 
 // Whether the number's old row, which is to leave, is one of an archetype's.
@@ -103,9 +73,7 @@ fn is_leaving(standing: Standing, archetype: usize) -> bool
 {
     match standing {
         Standing::Seated(_, old) => old.archetype as usize == archetype,
-        Standing::Free => false,
-        Standing::Damaged => false,
-        Standing::Astray => false,
+        _ => false,
     }
 }
 
@@ -120,156 +88,86 @@ fn is_full(rows: &[u32], counts: &[u32], archetype: usize, standing: Standing) -
 }
 
 // Whether an entry that is used is damaged: the chosen number's, or that of the number which falls into its old row.
-fn is_any_damaged(
-    used: usize,
-    archetypes: &[u32],
-    indices: &[u32],
-    numbers: &[u32],
-    counts: &[u32],
-    standing: Standing,
-) -> bool
-    ensures { result ≡ damaged_seen used archetypes.now indices.now numbers.now counts.now standing }
+fn is_any_damaged(store: &StoreTables<'_>, standing: Standing) -> bool
+    ensures { let lent = store_in store.now in result ≡ damaged_seen lent.ids.head.used lent.ids.archetypes lent.ids.indices lent.rows.numbers lent.rows.counts standing }
 {
     match standing {
-        Standing::Seated(part, old) => is_moved_damaged(
-            used, archetypes, indices, numbers, counts, part.row, old,
-        ),
+        Standing::Seated(part, old) => store.is_moved_damaged(part.row, old),
         Standing::Damaged => true,
-        Standing::Free => false,
-        Standing::Astray => false,
+        _ => false,
     }
 }
 
-// What a spawn at tests of a handle's number.
+// What a spawn at tests of a handle's number: the number and what it is, once every test has passed.
 fn choose(
-    head: Head,
-    rows: &[u32],
-    widths: &[u32],
-    types: &[u32],
-    sizes: &[u32],
-    generations: &[u32],
-    archetypes: &[u32],
-    indices: &[u32],
-    pending: &[u32],
-    numbers: &[u32],
-    counts: &[u32],
-    bytes: &[u8],
-    words: &[u64],
+    store: &StoreTables<'_>,
     handle: Handle,
     archetype: usize,
-) -> Choice
-    requires { Entered (store_of (decl_of rows.now widths.now types.now sizes.now) (ids_of head generations.now archetypes.now indices.now pending.now) (tables_of numbers.now counts.now bytes.now) words.now) }
-    ensures { Chooses (store_of (decl_of rows.now widths.now types.now sizes.now) (ids_of head generations.now archetypes.now indices.now pending.now) (tables_of numbers.now counts.now bytes.now) words.now) archetype (number_in handle.0) result }
+) -> Result<(Number, Standing), Refusal>
+    requires { Entered (store_in store.now) }
+    ensures { Chooses (store_in store.now) archetype (number_in handle.0) result }
 {
     let number = handle.id();
-    let standing = standing_of(
-        head,
-        rows,
-        widths,
-        types,
-        sizes,
-        generations,
-        archetypes,
-        indices,
-        pending,
-        numbers,
-        counts,
-        bytes,
-        words,
-        number,
-    );
+    let standing = standing_of(store, number);
+    let head = store.ids.head;
+    let rows = store.declaration.rows;
     if !head.is_flushed() {
-        return Choice::Refused(Refusal::NotFlushed);
+        return Err(Refusal::NotFlushed);
     }
     if rows.len() <= archetype {
-        return Choice::Refused(Refusal::BadPlace);
+        return Err(Refusal::BadPlace);
     }
     if is_astray(standing) {
-        return Choice::Refused(Refusal::Damaged);
+        return Err(Refusal::Damaged);
     }
-    if any_held(words) {
-        return Choice::Refused(Refusal::WordHeld);
+    if any_held(store.words) {
+        return Err(Refusal::WordHeld);
     }
-    if generations.len() <= number.0 as usize {
-        return Choice::Refused(Refusal::NoRoom);
+    if store.ids.generations.len() <= number.0 as usize {
+        return Err(Refusal::NoRoom);
     }
-    if is_full(rows, counts, archetype, standing) {
-        return Choice::Refused(Refusal::NoRoom);
+    if is_full(rows, store.rows.counts, archetype, standing) {
+        return Err(Refusal::NoRoom);
     }
-    if is_any_damaged(head.used, archetypes, indices, numbers, counts, standing) {
-        return Choice::Refused(Refusal::Damaged);
+    if is_any_damaged(store, standing) {
+        return Err(Refusal::Damaged);
     }
-    Choice::Granted(number, standing)
+    Ok((number, standing))
 }
 
 // What a spawn at tests, where its archetype has this part of the tables.
 fn choice_for(
-    head: Head,
-    rows: &[u32],
-    widths: &[u32],
-    types: &[u32],
-    sizes: &[u32],
-    generations: &[u32],
-    archetypes: &[u32],
-    indices: &[u32],
-    pending: &[u32],
-    numbers: &[u32],
-    counts: &[u32],
-    bytes: &[u8],
+    declaration: &Declaration<'_>,
+    ids: &IdTables<'_>,
+    rows: &RowTables<'_>,
     words: &[u64],
     bits: u64,
     archetype: usize,
     run: &[u8],
     span: Span,
-) -> Choice
-    requires { span ≡ span_in (decl_of rows.now widths.now types.now sizes.now) archetype }
-    ensures { Picks (store_of (decl_of rows.now widths.now types.now sizes.now) (ids_of head generations.now archetypes.now indices.now pending.now) (tables_of numbers.now counts.now bytes.now) words.now) bits archetype run.now result }
+) -> Result<(Number, Standing), Refusal>
+    requires { span ≡ span_in (decl_in declaration.now) archetype }
+    ensures { let lent = store_of (decl_in declaration.now) (ids_in ids.now) (rows_in rows.now) words.now in
+        Picks lent bits archetype run.now result }
 {
-    let short = is_run_wrong(rows.len(), archetype, run.len(), span.bytes);
-    if let Tested::Refused(r) = store_tables::tested(
-        head,
-        rows,
-        widths,
-        types,
-        sizes,
-        generations,
-        archetypes,
-        indices,
-        pending,
-        numbers,
-        counts,
-        bytes,
+    let store = StoreTables {
+        declaration: *declaration,
+        ids: *ids,
+        rows: *rows,
         words,
-        short,
-    ) {
-        return Choice::Refused(r);
-    }
-    let Bits::Good(handle) = Handle::from_bits(bits) else {
-        return Choice::Refused(Refusal::ZeroGeneration);
     };
-    choose(
-        head,
-        rows,
-        widths,
-        types,
-        sizes,
-        generations,
-        archetypes,
-        indices,
-        pending,
-        numbers,
-        counts,
-        bytes,
-        words,
-        handle,
-        archetype,
-    )
+    let declared = declaration.rows.len();
+    let short = is_run_wrong(declared, archetype, run.len(), span.bytes);
+    store.tested(short)?;
+    let Ok(handle) = Handle::from_bits(bits) else {
+        return Err(Refusal::ZeroGeneration);
+    };
+    choose(&store, handle, archetype)
 }
 
 // The old row of a live number leaves.
 fn make_way(
-    rows: &[u32],
-    sizes: &[u32],
+    declaration: &Declaration<'_>,
     archetypes: &mut [u32],
     indices: &mut [u32],
     numbers: &mut [u32],
@@ -277,22 +175,27 @@ fn make_way(
     bytes: &mut [u8],
     standing: Standing,
 )
-    ensures { seats_of archetypes.new indices.new (tables_of numbers.new counts.new bytes.new) ≡ cleared_seats rows.now sizes.now (seats_of archetypes.old indices.old (tables_of numbers.old counts.old bytes.old)) standing }
+    ensures { let lent = seats_of archetypes.old indices.old (tables_of numbers.old counts.old bytes.old) in
+        let left = seats_of archetypes.new indices.new (tables_of numbers.new counts.new bytes.new) in
+        left ≡ cleared_seats declaration.now.rows.now declaration.now.sizes.now lent standing }
 {
-    match standing {
-        Standing::Seated(part, old) => store_steps::vacate(
-            rows, sizes, archetypes, indices, numbers, counts, bytes, part, old,
-        ),
-        Standing::Free => {}
-        Standing::Damaged => {}
-        Standing::Astray => {}
+    if let Standing::Seated(part, old) = standing {
+        store_steps::vacate(
+            declaration,
+            archetypes,
+            indices,
+            numbers,
+            counts,
+            bytes,
+            part,
+            old,
+        );
     }
 }
 
 // A live number's old row leaves; then the number takes the first unused row of an archetype. Answers that row's place.
 fn reseat(
-    rows: &[u32],
-    sizes: &[u32],
+    declaration: &Declaration<'_>,
     archetypes: &mut [u32],
     indices: &mut [u32],
     numbers: &mut [u32],
@@ -304,25 +207,33 @@ fn reseat(
     number: Number,
     run: &[u8],
 ) -> Place
-    ensures { Reseats (block_by rows.now span archetype) (part_by sizes.now span) (cleared_seats rows.now sizes.now (seats_of archetypes.old indices.old (tables_of numbers.old counts.old bytes.old)) standing) archetype number.0 run.now result (seats_of archetypes.new indices.new (tables_of numbers.new counts.new bytes.new)) }
+    ensures { let lent = seats_of archetypes.old indices.old (tables_of numbers.old counts.old bytes.old) in
+        let left = seats_of archetypes.new indices.new (tables_of numbers.new counts.new bytes.new) in
+        let cleared = cleared_seats declaration.now.rows.now declaration.now.sizes.now lent standing in
+        Reseats (block_by declaration.now.rows.now span archetype) (part_by declaration.now.sizes.now span) cleared archetype number.0 run.now result left }
 {
     make_way(
-        rows, sizes, archetypes, indices, numbers, counts, bytes, standing,
+        declaration,
+        archetypes,
+        indices,
+        numbers,
+        counts,
+        bytes,
+        standing,
     );
     let a = archetype as usize;
     let place = Place {
-        archetype: archetype,
+        archetype,
         index: Row(at(counts, a)),
     };
-    store_steps::seat(rows, sizes, numbers, counts, bytes, span, a, number, run);
+    store_steps::seat(declaration, numbers, counts, bytes, span, a, number, run);
     place
 }
 
 // The number takes its row, and the id layer has that as its place.
 fn settle(
-    head: Head,
-    rows: &[u32],
-    sizes: &[u32],
+    head: &mut Head,
+    declaration: &Declaration<'_>,
     generations: &mut [u32],
     archetypes: &mut [u32],
     indices: &mut [u32],
@@ -336,34 +247,33 @@ fn settle(
     run: &[u8],
     span: Span,
     standing: Standing,
-) -> Chosen
-    ensures { Settles (block_by rows.now span archetype) (part_by sizes.now span) (cleared_seats rows.now sizes.now (seats_of archetypes.old indices.old (tables_of numbers.old counts.old bytes.old)) standing) head generations.old pending.old archetype bits number.0 run.now result (ids_of (chosen_head head result) generations.new archetypes.new indices.new pending.new) (tables_of numbers.new counts.new bytes.new) }
+) -> Result<Option<Place>, Refusal>
+    ensures { let seats = seats_of archetypes.old indices.old (tables_of numbers.old counts.old bytes.old) in
+        let cleared = cleared_seats declaration.now.rows.now declaration.now.sizes.now seats standing in
+        let left = ids_of head.new generations.new archetypes.new indices.new pending.new in
+        Settles (block_by declaration.now.rows.now span archetype) (part_by declaration.now.sizes.now span) cleared head.old generations.old pending.old archetype bits number.0 run.now result left (tables_of numbers.new counts.new bytes.new) }
 {
     let place = reseat(
-        rows, sizes, archetypes, indices, numbers, counts, bytes, standing, span, archetype,
-        number, run,
+        declaration,
+        archetypes,
+        indices,
+        numbers,
+        counts,
+        bytes,
+        standing,
+        span,
+        archetype,
+        number,
+        run,
     );
     ids::alloc_at(head, generations, archetypes, indices, pending, bits, place)
 }
 
-// The head that the id layer hands back.
-fn done_by(said: Chosen) -> Done
-    ensures { result ≡ done_by said }
-{
-    match said {
-        Chosen::Fresh(left) => Done::Granted(left),
-        Chosen::Over(left, _) => Done::Granted(left),
-        Chosen::Refused(r) => Done::Refused(r),
-    }
-}
-
 // Makes an entity of this handle and these components. A live number's old row leaves first.
+// The tables stay slices, as in the calls to which C lends some of them const: a struct of `&mut` would serve this call alone.
 pub fn spawn_at(
-    head: Head,
-    rows: &[u32],
-    widths: &[u32],
-    types: &[u32],
-    sizes: &[u32],
+    head: &mut Head,
+    declaration: &Declaration<'_>,
     generations: &mut [u32],
     archetypes: &mut [u32],
     indices: &mut [u32],
@@ -375,17 +285,29 @@ pub fn spawn_at(
     bits: u64,
     archetype: u32,
     run: &[u8],
-) -> Done
-    ensures { Did (spawning_at (store_of (decl_of rows.now widths.now types.now sizes.now) (ids_of head generations.old archetypes.old indices.old pending.old) (tables_of numbers.old counts.old bytes.old) words.now) bits archetype run.now) (store_of (decl_of rows.now widths.now types.now sizes.now) (ids_of head generations.old archetypes.old indices.old pending.old) (tables_of numbers.old counts.old bytes.old) words.now) (done_of result) (store_of (decl_of rows.now widths.now types.now sizes.now) (ids_of (head_after head result) generations.new archetypes.new indices.new pending.new) (tables_of numbers.new counts.new bytes.new) words.now) }
+) -> Result<(), Refusal>
+    ensures { let lent = store_of (decl_in declaration.now) (ids_of head.old generations.old archetypes.old indices.old pending.old) (tables_of numbers.old counts.old bytes.old) words.now in
+        let left = store_of (decl_in declaration.now) (ids_of head.new generations.new archetypes.new indices.new pending.new) (tables_of numbers.new counts.new bytes.new) words.now in
+        Did (spawning_at lent bits archetype run.now) lent (answer_of result) left }
 {
     let a = archetype as usize;
-    let span = column_entry::span(rows, widths, types, sizes, a);
-    match choice_for(
+    let span = column_entry::span(declaration, a);
+    let ids = IdTables {
+        head: *head,
+        generations,
+        archetypes,
+        indices,
+        pending,
+    };
+    let rows = RowTables {
+        numbers,
+        counts,
+        bytes,
+    };
+    let (number, standing) = choice_for(declaration, &ids, &rows, words, bits, a, run, span)?;
+    settle(
         head,
-        rows,
-        widths,
-        types,
-        sizes,
+        declaration,
         generations,
         archetypes,
         indices,
@@ -393,33 +315,12 @@ pub fn spawn_at(
         numbers,
         counts,
         bytes,
-        words,
         bits,
-        a,
+        number,
+        archetype,
         run,
         span,
-    ) {
-        Choice::Refused(r) => Done::Refused(r),
-        Choice::Granted(number, standing) => {
-            let said = settle(
-                head,
-                rows,
-                sizes,
-                generations,
-                archetypes,
-                indices,
-                pending,
-                numbers,
-                counts,
-                bytes,
-                bits,
-                number,
-                archetype,
-                run,
-                span,
-                standing,
-            );
-            done_by(said)
-        }
-    }
+        standing,
+    )?;
+    Ok(())
 }

@@ -1,44 +1,35 @@
 -- The ways through an archetype's part of a table and through the two steps, over plain values.
 -- Assumes nothing.
 use Prim.Native.Nat.{ℕ, ◌+◌, ◌-◌, ◌<◌, ◌≤◌}
-use native.Mathlib.Omega.{arith}
-use mathlib.Core.Path.{◌≡◌, sym, ap, ◌∙◌}
+use Rattle.std.specs.Prelude.{min}
+use mathlib.Core.Path.{◌≡◌, refl, sym, ap, ◌∙◌}
 use mathlib.Core.List.{List}
-use lib.ListN.{length, get_or, set, take, drop, length-drop, drop_of_length-le}
-use lib.Seq.{take_all, take-nil}
+use lib.ListN.{length, get_or, set, take, drop}
+use Rattle.std.proofs.lemmas.List.{take_min, drop_min, take_rest}
 use borrow.Author.Tests.{lt-ltb, le-ltb}
+use Rattle.std.specs.Prelude.{Option, Some, None}
 use Rattle.handle.specs.declared.Number.{Number}
 use Rattle.decl.specs.declared.Span.{Span}
 use Rattle.cells.specs.Line.{run_line, transferred}
 use Rattle.row_step.specs.declared.Block.{Block}
-use Rattle.row_step.specs.declared.Moved.{Moved}
-use Rattle.row_step.specs.declared.Moved.TheVariants.{Into, Nothing}
 use Rattle.row_step.specs.Tables.{Rows, tables_of, moved_of, line_in, row_removed}
 use Rattle.row_step.proofs.Held.{appended_numbers, appended_counts, appended_bytes}
 use Rattle.store_steps.specs.Parts.{part_by}
 use Rattle.store_steps.specs.Seats.{Seats, seats_of, vacated_seats, filled, seated_rows}
 
-module _ (table : List ℕ) (span : Span) where
-  pub part_none : length table ≤ span.column → take (0 - 0) (drop 0 table) ≡ part_by table span
-  unfolding part_by
-  part_none h = rw (drop_of_length-le table h, take-nil {A = ℕ} span.columns)
+-- from the first column on, as many as there are
+pub part_cut : (table : List ℕ) (span : Span) (from count : ℕ) → from ≡ min span.column (length table)
+    → count ≡ min span.columns (length (take (length table - from) (drop from table))) → take count (take (length table - from) (drop from table)) ≡ part_by table span
+unfolding part_by
+part_cut table span from count p q =
+    rw (q, take_min span.columns (take (length table - from) (drop from table)), take_rest table from, p, drop_min span.column table) refl
 
-  pub part_some : length table - span.column ≤ span.columns → take (length table - span.column) (drop span.column table) ≡ part_by table span
-  unfolding part_by
-  part_some h =
-      let e = length-drop span.column table in
-      take_all (length table - span.column) (drop span.column table) (omega (arith, e)) ∙ sym (take_all span.columns (drop span.column table) (omega (arith, e)))
-
-  pub part_all : take ((span.column + span.columns) - span.column) (drop span.column table) ≡ part_by table span
-  unfolding part_by
-  part_all = let e : (span.column + span.columns) - span.column ≡ span.columns = omega arith in rw e
-
-module _ (k : Block) (sizes : List ℕ) (t : Seats) (a r : ℕ) (moved : Moved) (w : Rows) (e : (moved_of moved, w) ≡ row_removed k sizes t.rows a r) where
-  pub nothing_moved : moved ≡ Nothing → seats_of t.archetypes t.indices w ≡ vacated_seats k sizes t a r
+module _ (k : Block) (sizes : List ℕ) (t : Seats) (a r : ℕ) (moved : Option Number) (w : Rows) (e : (moved_of moved, w) ≡ row_removed k sizes t.rows a r) where
+  pub nothing_moved : moved ≡ None → seats_of t.archetypes t.indices w ≡ vacated_seats k sizes t a r
   unfolding vacated_seats
   nothing_moved p = rw (← e, p)
 
-  pub one_moved : (n : Number) (archetypes indices : List ℕ) → moved ≡ Into n
+  pub one_moved : (n : Number) (archetypes indices : List ℕ) → moved ≡ Some n
       → (archetypes ≡ set t.archetypes n.0 a) × (indices ≡ set t.indices n.0 r) → seats_of archetypes indices w ≡ vacated_seats k sizes t a r
   unfolding vacated_seats
   one_moved n archetypes indices p s = rw (← e, p, s.0, s.1)

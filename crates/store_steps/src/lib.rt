@@ -7,9 +7,9 @@ ghost use Rattle.store_steps.specs.Parts.{block_by, part_by};
 ghost use Rattle.store_steps.specs.Seats.{seats_of, vacated_seats, seated_rows};
 
 use cells::Line;
-use decl::Span;
+use decl::{Declaration, Span};
 use handle::{Number, Place, Row};
-use row_step::{Block, Moved};
+use row_step::Block;
 
 // An archetype's part of the row tables.
 fn block_of(rows: &[u32], span: Span, archetype: usize) -> Block
@@ -26,50 +26,57 @@ fn block_of(rows: &[u32], span: Span, archetype: usize) -> Block
 pub fn part_of(table: &[u32], span: Span) -> &[u32]
     ensures { result.now ≡ part_by table.now span }
 {
-    let from = span.column;
-    if table.len() <= from {
-        return &table[0..0];
-    }
-    if table.len() - from <= span.columns {
-        return &table[from..table.len()];
-    }
-    &table[from..from + span.columns]
+    let rest = &table[usize::min(span.column, table.len())..];
+    &rest[..usize::min(span.columns, rest.len())]
 }
 
-// Removes the row at a place of a block. Whenever the last row falls into the hole, its number's place is written here.
-fn vacate_in(
+// Removes the row at a place of the archetype that has this part of the tables. Whenever the last row falls into the
+// hole, its number's place is written here.
+// The tables stay slices: C lends the declaration const and these to be written, and no view holds both.
+pub fn vacate(
+    declaration: &Declaration<'_>,
     archetypes: &mut [u32],
     indices: &mut [u32],
     numbers: &mut [u32],
     counts: &mut [u32],
     bytes: &mut [u8],
-    block: Block,
-    sizes: &[u32],
+    span: Span,
     place: Place,
 )
-    ensures { seats_of archetypes.new indices.new (tables_of numbers.new counts.new bytes.new) ≡ vacated_seats block sizes.now (seats_of archetypes.old indices.old (tables_of numbers.old counts.old bytes.old)) place.archetype place.index.0 }
+    ensures { let block = block_by declaration.now.rows.now span place.archetype in
+        let sizes = part_by declaration.now.sizes.now span in
+        let lent = seats_of archetypes.old indices.old (tables_of numbers.old counts.old bytes.old) in
+        let left = seats_of archetypes.new indices.new (tables_of numbers.new counts.new bytes.new) in
+        left ≡ vacated_seats block sizes lent place.archetype place.index.0 }
 {
-    let row = place.index;
     let archetype = place.archetype as usize;
-    let moved = row_step::remove(numbers, counts, bytes, block, sizes, archetype, row);
-    if let Moved::Into(number) = moved {
+    let block = block_of(declaration.rows, span, archetype);
+    let sizes = part_of(declaration.sizes, span);
+    let moved = row_step::remove(numbers, counts, bytes, block, sizes, archetype, place.index);
+    if let Some(number) = moved {
         id_tables::put_place(archetypes, indices, number, place);
     }
 }
 
-// Puts a number into the first unused row of a block, and a run of bytes in column order into that row's components.
-fn seat_in(
+// Puts a number into the first unused row of the archetype that has this part of the tables, and a run of bytes in column
+// order into that row's components.
+pub fn seat(
+    declaration: &Declaration<'_>,
     numbers: &mut [u32],
     counts: &mut [u32],
     bytes: &mut [u8],
-    block: Block,
-    sizes: &[u32],
+    span: Span,
     archetype: usize,
     number: Number,
     run: &[u8],
 )
-    ensures { tables_of numbers.new counts.new bytes.new ≡ seated_rows block sizes.now (tables_of numbers.old counts.old bytes.old) archetype number.0 run.now }
+    ensures { let block = block_by declaration.now.rows.now span archetype in
+        let sizes = part_by declaration.now.sizes.now span in
+        let lent = tables_of numbers.old counts.old bytes.old in
+        tables_of numbers.new counts.new bytes.new ≡ seated_rows block sizes lent archetype number.0 run.now }
 {
+    let block = block_of(declaration.rows, span, archetype);
+    let sizes = part_of(declaration.sizes, span);
     let count = id_tables::at(counts, archetype);
     if block.rows <= count {
         return;
@@ -82,45 +89,4 @@ fn seat_in(
     cells::transfer(run, Line::RUN, bytes, line, sizes);
     row_step::set_number(numbers, block.first, Row(count), number);
     id_tables::put(counts, archetype, count + 1);
-}
-
-// Removes the row at a place of the archetype that has this part of the tables.
-pub fn vacate(
-    rows: &[u32],
-    sizes: &[u32],
-    archetypes: &mut [u32],
-    indices: &mut [u32],
-    numbers: &mut [u32],
-    counts: &mut [u32],
-    bytes: &mut [u8],
-    span: Span,
-    place: Place,
-)
-    ensures { seats_of archetypes.new indices.new (tables_of numbers.new counts.new bytes.new) ≡ vacated_seats (block_by rows.now span place.archetype) (part_by sizes.now span) (seats_of archetypes.old indices.old (tables_of numbers.old counts.old bytes.old)) place.archetype place.index.0 }
-{
-    let block = block_of(rows, span, place.archetype as usize);
-    let own = part_of(sizes, span);
-    vacate_in(
-        archetypes, indices, numbers, counts, bytes, block, own, place,
-    );
-}
-
-// Puts a number into the first unused row of the archetype that has this part of the tables, and a run of bytes in column
-// order into that row's components.
-pub fn seat(
-    rows: &[u32],
-    sizes: &[u32],
-    numbers: &mut [u32],
-    counts: &mut [u32],
-    bytes: &mut [u8],
-    span: Span,
-    archetype: usize,
-    number: Number,
-    run: &[u8],
-)
-    ensures { tables_of numbers.new counts.new bytes.new ≡ seated_rows (block_by rows.now span archetype) (part_by sizes.now span) (tables_of numbers.old counts.old bytes.old) archetype number.0 run.now }
-{
-    let block = block_of(rows, span, archetype);
-    let own = part_of(sizes, span);
-    seat_in(numbers, counts, bytes, block, own, archetype, number, run);
 }

@@ -14,11 +14,10 @@ use Rattle.id_tables.specs.Head.{flushed}
 use Rattle.id_tables.specs.Ids.{live, place_at}
 use Rattle.decl.specs.Places.{span_of}
 use Rattle.decl.specs.declared.Span.{Span}
-use Rattle.store_tables.specs.declared.Entity.{Entity}
 use Rattle.store_tables.specs.Store.{Store}
 use Rattle.store_tables.specs.Rows.{archetype_of, row_of, owns}
 use Rattle.store_tables.specs.Kept.{Entered}
-use Rattle.store_tables.specs.Seen.{own_seen, entity_seen, entity_of}
+use Rattle.store_tables.specs.Seen.{own_seen, entity_seen}
 use Rattle.store_tables.specs.Entities.{entity_rules}
 use Rattle.store_tables.proofs.Places.{owned, not_owned}
 
@@ -79,10 +78,6 @@ module _ (s : Store) (e : Entered s) (g n : ℕ) where
 
     pub entity_place : place ≡ place_at s.ids n
     entity_place = ap (λ (x : Span × Place). x.1) (value_of_lem (entity_rules s g n) found (p ∙ entity_told))
-
--- an answer taken apart
-pub entity_said : {a : Answer (Span × Place)} (r t : Entity) → entity_of r ≡ a → r ≡ t → entity_of t ≡ a
-entity_said r t e p = sym (ap entity_of p) ∙ e
 
 -- with what a call tests before them, where the place is its own: no 1
 prefix : {A : Type 0} (x b c d e : Bool) (a a' : Answer A) → (d ≡ false → (e ≡ false) × (a ≡ a'))

@@ -1,13 +1,14 @@
 -- The ways through the tests of places and of an entity, over plain values.
 -- Assumes nothing.
 use Prim.Native.Nat.{ℕ, ◌+◌, ◌-◌, ◌<◌, ◌≤◌}
-use mathlib.Core.Path.{◌≡◌}
+use mathlib.Core.Path.{◌≡◌, sym}
 use mathlib.Core.Bool.{true, false, not}
 use mathlib.Core.List.{List}
 use mathlib.Core.Option.{none, some}
+use Rattle.std.specs.Prelude.{Option, Some, None}
 use lib.Dec.{eqb}
 use lib.ListN.{get_or}
-use borrow.Author.Tests.{lt-ltb, le-ltb, le-leb, lt-leb, eq-eqb, ne_eqb}
+use borrow.Author.Tests.{lt-ltb, le-ltb, le-leb, lt-leb, eq-eqb, ne_eqb, not-true, not-false}
 use Rattle.refusal.specs.Table.{granted, refused, ◌or_else◌}
 use Rattle.handle.specs.declared.Place.{Place}
 use Rattle.id_tables.specs.Head.{flushed}
@@ -15,8 +16,6 @@ use Rattle.id_tables.specs.Ids.{Ids, live, place_at}
 use Rattle.decl.specs.Decl.{Decl, archetypes}
 use Rattle.decl.specs.declared.Span.{Span}
 use Rattle.column_entry.specs.Entry.{span_in}
-use Rattle.store_tables.specs.declared.Own.{Own}
-use Rattle.store_tables.specs.declared.Own.TheVariants.{At, Damaged}
 use Rattle.store_tables.specs.Seen.{own_seen, own_of, moved_seen, entity_seen}
 
 module _ (d : Decl) (numbers counts : List ℕ) (a r n : ℕ) where
@@ -30,13 +29,13 @@ module _ (d : Decl) (numbers counts : List ℕ) (a r n : ℕ) where
     no_row l = rw (lt-ltb _ _ h, ← c, le-ltb _ _ l)
 
     module _ (l : r < count) (span : Span) (p : span ≡ span_in d a) (held : ℕ) (q : held ≡ get_or numbers (span.row + r) 0) where
-      pub another : (held ≡ n → ⊥) → none ≡ own_seen d numbers counts a r n
+      pub another : true ≡ not (eqb held n) → none ≡ own_seen d numbers counts a r n
       unfolding own_seen
-      another e = rw (lt-ltb _ _ h, ← c, lt-ltb _ _ l, ← p, ← q, ne_eqb _ _ e)
+      another e = rw (lt-ltb _ _ h, ← c, lt-ltb _ _ l, ← p, ← q, not-true _ (sym e))
 
-      pub holds : held ≡ n → some span ≡ own_seen d numbers counts a r n
+      pub holds : false ≡ not (eqb held n) → some span ≡ own_seen d numbers counts a r n
       unfolding own_seen
-      holds e = rw (lt-ltb _ _ h, ← c, lt-ltb _ _ l, ← p, ← q, eq-eqb _ _ e)
+      holds e = rw (lt-ltb _ _ h, ← c, lt-ltb _ _ l, ← p, ← q, not-false _ (sym e))
 
 module _ (first used : ℕ) (archetypes indices numbers counts : List ℕ) (a r last : ℕ) (c : last ≡ get_or counts a 0 - 1) where
   pub is_last : r ≡ last → false ≡ moved_seen first used archetypes indices numbers counts a r
@@ -68,12 +67,12 @@ module _ (d : Decl) (i : Ids) (numbers counts : List ℕ) (g n : ℕ) where
     unfolding entity_seen ◌or_else◌
     absent l = rw (← eg, ← en, f, l)
 
-    module _ (l : live i g' n' ≡ true) (place : Place) (p : place ≡ place_at i n') (own : Own)
+    module _ (l : live i g' n' ≡ true) (place : Place) (p : place ≡ place_at i n') (own : Option Span)
         (o : own_of own ≡ own_seen d numbers counts place.archetype place.index.0 n') where
-      pub not_own : own ≡ Damaged → refused 1 ≡ entity_seen d i numbers counts g n
+      pub not_own : own ≡ None → refused 1 ≡ entity_seen d i numbers counts g n
       unfolding entity_seen ◌or_else◌
       not_own a = rw (← eg, ← en, f, l, ← (rw p at o), a)
 
-      pub its_own : (span : Span) → own ≡ At span → granted (span, place) ≡ entity_seen d i numbers counts g n
+      pub its_own : (span : Span) → own ≡ Some span → granted (span, place) ≡ entity_seen d i numbers counts g n
       unfolding entity_seen ◌or_else◌
       its_own span a = rw (← eg, ← en, f, l, ← (rw p at o), a, p)

@@ -1,7 +1,7 @@
 -- What the tests of places and entities see on any tables; on tables that pass the first tests they are the rules of Rows and Entities.
-use Rattle.std.specs.Prelude.{ℕ, ◌+◌, ◌-◌, Bool, cond, not, ◌&&◌, ◌||◌, List, [], ◌∷◌, ltb, leb, eqb, get_or}
+use Rattle.std.specs.Prelude.{ℕ, ◌+◌, ◌-◌, Bool, cond, not, ◌&&◌, ◌||◌, List, [], ◌∷◌, ltb, leb, eqb, get_or, Some, None}
+use Rattle.std.specs.Prelude as prelude
 use Rattle.std.proofs.Math.Option.{Option, none, some}
-use Rattle.refusal.specs.Number.{number_of}
 use Rattle.refusal.specs.Table.{◌when◌, Answer, granted, refused, ◌or_else◌}
 use Rattle.handle.specs.declared.Place.{Place}
 use Rattle.id_tables.specs.Head.{flushed}
@@ -9,19 +9,15 @@ use Rattle.id_tables.specs.Ids.{Ids, live, index_at, place_at}
 use Rattle.decl.specs.Decl.{Decl, archetypes}
 use Rattle.decl.specs.declared.Span.{Span}
 use Rattle.column_entry.specs.Entry.{span_in}
-use Rattle.store_tables.specs.declared.Own.{Own}
-use Rattle.store_tables.specs.declared.Own.TheVariants.{At, Damaged}
-use Rattle.store_tables.specs.declared.Entity.{Entity}
-use Rattle.store_tables.specs.declared.Entity.TheVariants as entity
 
 -- row r of archetype a holds number n: that archetype's part of the tables
 unfoldable pub own_seen : Decl → List ℕ → List ℕ → ℕ → ℕ → ℕ → Option Span
 own_seen d numbers counts a r n =
     cond (ltb a (archetypes d) && (ltb r (get_or counts a 0) && eqb (get_or numbers ((span_in d a).row + r) 0) n)) (some (span_in d a)) none
 
-abbrev pub own_of : Own → Option Span
-own_of (At span) = some span
-own_of Damaged = none
+abbrev pub own_of : prelude.Option Span → Option Span
+own_of (Some span) = some span
+own_of None = none
 
 -- damage of the number that a removal of row r moves, where the archetype's rows begin at `first`
 unfoldable pub moved_seen : ℕ → ℕ → List ℕ → List ℕ → List ℕ → List ℕ → ℕ → ℕ → Bool
@@ -42,8 +38,3 @@ entity_seen d i numbers counts generation n =
     ∷ 2 when not (live i generation n)
     ∷ []
     or_else own_at (place_at i n) (own_seen d numbers counts (get_or i.archetypes n 0) (index_at i n) n)
-
--- the document's number and values of each case
-abbrev pub entity_of : Entity → Answer (Span × Place)
-entity_of (entity.At span place) = granted (span, place)
-entity_of (entity.Refused r) = refused (number_of r)

@@ -2,10 +2,11 @@
 use Rattle.std.specs.Prelude.{ℕ, Bool, not, List, [], ◌∷◌, ◌++◌, eqb, length}
 use Rattle.refusal.specs.Table.{Rule, ◌when◌}
 use Rattle.id_tables.specs.Head.{head_rules}
-use Rattle.id_tables.specs.Ids.{Ids, capacity, capacity_rules, length_rules}
-use Rattle.decl.specs.Decl.{Decl, columns}
-use Rattle.row_step.specs.Tables.{Rows}
+use Rattle.id_tables.specs.Ids.{Ids, ids_in, capacity, capacity_rules, length_rules}
+use Rattle.decl.specs.Decl.{Decl, decl_in, columns}
+use Rattle.row_step.specs.Tables.{Rows, rows_in}
 use Rattle.column_entry.specs.Entry.{table_rules, count_rules}
+use Rattle.store_tables.specs.declared.StoreTables.{StoreTables}
 
 -- the declaration, the id tables with their head, row numbers, row counts and bytes, and the borrow words
 pub record Store : Type 0 where
@@ -16,6 +17,10 @@ pub record Store : Type 0 where
 
 abbrev pub store_of : Decl → Ids → Rows → List ℕ → Store
 store_of d i w b = record { decl = d; ids = i; rows = w; words = b }
+
+-- what a view lends
+abbrev pub store_in : StoreTables → Store
+store_in t = store_of (decl_in t.declaration) (ids_in t.ids) (rows_in t.rows) t.words.now
 
 -- the store with other id tables, other rows, other words
 abbrev pub with_ids : Store → Ids → Store

@@ -5,8 +5,5 @@ ghost use Rattle.std.specs.Prelude.{not, ◌&&◌, ◌≡◌, ltb, eqb};
 pub fn is_run_wrong(declared: usize, archetype: usize, run: usize, width: usize) -> bool
     ensures { result ≡ (ltb archetype declared && not (eqb run width)) }
 {
-    if declared <= archetype {
-        return false;
-    }
-    run != width
+    archetype < declared && run != width
 }

@@ -1,12 +1,12 @@
-use mathlib.Core.Path.{sym, ◌∙◌}
-use Rattle.borrow_word.proofs.Laws.{held_here, held_next, held_none}
+-- `borrow_word::any_held` meets its contract: the test of the search is that of the rule.
+use Rattle.std.proofs.Common.{rules, eqb, not, sym, ◌∙◌}
+use borrow.Author.Tests.{tests}
+use Rattle.std.proofs.lemmas.Iterator.{YieldsList-from_slice}
+use Rattle.std.proofs.lemmas.Iterator.Search.{any_from_yields_List}
+use Rattle.borrow_word.proofs.Laws.{held_any}
 use Rattle.borrow_word.proofs.any_held.Goals as goal
 
-pub returns-then-words-i-ne0 : goal.returns-then-words-i-ne0
-returns-then-words-i-ne0 c = sym (c.loop-i.invariant ∙ held_here _ _ c.loop-i-test.true c.if-words-i-ne0.true)
-
-pub loop-i-preserved : goal.loop-i-preserved
-loop-i-preserved c = c.loop-i.invariant ∙ held_next _ _ c.loop-i-test.true c.if-words-i-ne0.false
-
 pub returns : goal.returns
-returns c = sym (c.loop-i.invariant ∙ held_none _ _ c.loop-i-test.false)
+returns c =
+    any_from_yields_List (λ w. not (eqb w 0)) _ _ _ c.any.ensures.ran (YieldsList-from_slice c.args.words.now cc) (λ x b q k. search (rules, tests))
+    ∙ sym (held_any _)

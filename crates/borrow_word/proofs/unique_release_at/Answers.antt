@@ -1,11 +1,6 @@
 -- `borrow_word::unique_release_at` meets its contract: no such position, or what `unique_release` says of the word there, stored.
-use Rattle.borrow_word.proofs.Laws.{past, through}
+use Rattle.borrow_word.proofs.Laws.{stepped}
 use Rattle.borrow_word.proofs.unique_release_at.Goals as goal
 
-pub returns-then-words-at : goal.returns-then-words-at
-returns-then-words-at c = past _ _ _ c.if-words-at.true
-
 pub returns : goal.returns
-returns c =
-    through _ _ _ _ _ _ c.if-words-at.false c.unique_release-answer.ensures
-    (c.store.ensures.same, c.store.ensures.left)
+returns c = stepped _ _ _ _ _ c.step_at.ensures.past c.step_at.ensures.within

@@ -1,5 +1,4 @@
--- `cells::copy_within` meets its contract. The loop's invariant: the first i bytes are stored. The measure is how many are left.
-use Prim.Native.Nat.{◌≤◌, ◌-◌}
+-- `cells::copy_within` meets its contract. The loop's invariant: the first i bytes are stored.
 use mathlib.Core.Path.{◌≡◌}
 use lib.ListN.{length}
 use Rattle.cells.specs.Cell.{cell}
@@ -7,7 +6,4 @@ use Rattle.cells.proofs.Loops.{stored}
 use Rattle.cells.proofs.copy_within.Given as goal
 
 abbrev pub invariant-loop-i : goal.invariant-loop-i
-invariant-loop-i l = (l.i ≤ l.size) × (l.bytes ≡ stored l.initial.bytes l.to (cell l.initial.bytes l.from l.size) l.i) × (length l.bytes ≡ length l.initial.bytes)
-
-abbrev pub decreases-loop-i : goal.decreases-loop-i
-decreases-loop-i l = l.size - l.i
+invariant-loop-i l = (l.bytes ≡ stored l.initial.bytes l.to (cell l.initial.bytes l.from l.size) l.i) × (length l.bytes ≡ length l.initial.bytes)

@@ -1,13 +1,20 @@
 -- `column_entry::counts_tested` meets its contract: counts and rows are compared as far as there are both.
-use native.Mathlib.Omega.{arith}
-use Rattle.column_entry.proofs.Loops.{counts_over, counts_passed}
+use Rattle.std.proofs.Common.{rules}
+use borrow.Author.Tests.{tests}
+use Rattle.std.proofs.lemmas.Iterator.{cases_from_any, YieldsList-from_slice, YieldsList-from_zip}
+use Rattle.column_entry.proofs.Loops.{Over, Within, counts_over, counts_passed}
 use Rattle.column_entry.proofs.counts_tested.Goals as goal
 
-pub any_over-requires : goal.any_over-requires
-any_over-requires c = (omega (arith, c.least.ensures), omega (arith, c.least.ensures))
-
-pub returns-then-any_over : goal.returns-then-any_over
-returns-then-any_over c = counts_over _ _ (rw c.least.ensures at c.any_over.ensures) c.if-any_over.true
+pub returns-then-any : goal.returns-then-any
+returns-then-any c =
+    counts_over _ _
+    (cases_from_any c.any.new.self _ _ Over Within c.if-any.ensures.ran
+    (YieldsList-from_zip (YieldsList-from_slice c.args.rows.now cc) (YieldsList-from_slice c.args.counts.now cc))
+    (λ x q k. search (rules, tests)) (λ x q k. search (rules, tests)))
 
 pub returns : goal.returns
-returns c = counts_passed _ _ (rw c.least.ensures at c.any_over.ensures) c.if-any_over.false
+returns c =
+    counts_passed _ _
+    (cases_from_any c.any.new.self _ _ Over Within c.if-any.ensures.ran
+    (YieldsList-from_zip (YieldsList-from_slice c.args.rows.now cc) (YieldsList-from_slice c.args.counts.now cc))
+    (λ x q k. search (rules, tests)) (λ x q k. search (rules, tests)))

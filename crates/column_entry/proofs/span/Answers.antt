@@ -1,14 +1,17 @@
 -- `column_entry::span` meets its contract: what `span_of` answers, or nothing.
-use mathlib.Core.Path.{sym, ap, ◌∙◌}
-use Rattle.decl.specs.Places.{located_of}
-use Rattle.decl.specs.declared.Located.{Located}
+use mathlib.Core.Path.{◌≡◌, refl, ap, ◌∙◌}
+use Rattle.std.specs.Prelude.{Result, Ok, Err}
+use Rattle.std.specs.Result.{result_unwrap_or}
+use Rattle.refusal.specs.declared.Refusal.{Refusal}
+use Rattle.refusal.specs.Table.{answer_of, refused}
+use Rattle.decl.specs.declared.Span.{Span}
 use Rattle.column_entry.specs.Entry.{span_or, span_in}
 use Rattle.column_entry.proofs.span.Goals as goal
 
-pub returns-in-At : goal.returns-in-At
-unfolding span_in
-returns-in-At c = ap (λ (l : Located). span_or (located_of l)) (sym c.in-At.is) ∙ ap span_or c.span_of.ensures
+or_nowhere : (r : Result Span Refusal) → result_unwrap_or r (span_or (refused 0)) ≡ span_or (answer_of r)
+or_nowhere (Ok s) = refl
+or_nowhere (Err e) = refl
 
-pub returns-in-Refused : goal.returns-in-Refused
+pub returns : goal.returns
 unfolding span_in
-returns-in-Refused c = ap (λ (l : Located). span_or (located_of l)) (sym c.in-Refused.is) ∙ ap span_or c.span_of.ensures
+returns c = c.unwrap_or.ensures ∙ or_nowhere c.span_of.result ∙ ap span_or c.span_of.ensures

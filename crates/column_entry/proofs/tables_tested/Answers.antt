@@ -1,11 +1,10 @@
 -- `column_entry::tables_tested` meets its contract: the declaration's tests, then the lengths.
-use mathlib.Core.Path.{sym, ap, ◌∙◌}
-use Rattle.decl.specs.Places.{measured_of}
+use Rattle.refusal.specs.Laws.{handed_up}
 use Rattle.column_entry.proofs.Keeping.{declaration_halts, lengths_told}
 use Rattle.column_entry.proofs.tables_tested.Goals as goal
 
-pub returns-in-Of : goal.returns-in-Of
-returns-in-Of c = lengths_told _ _ (sym (ap measured_of c.in-Of.is) ∙ c.totals_of.ensures) c.lengths_tested.ensures
+pub returns-in_err-all : goal.returns-in_err-all
+returns-in_err-all c = handed_up _ _ c.from_residual.ensures.1 (declaration_halts _ _ c.in_err-all.ensures)
 
-pub returns-in-Refused : goal.returns-in-Refused
-returns-in-Refused c = declaration_halts _ _ (sym (ap measured_of c.in-Refused.is) ∙ c.totals_of.ensures)
+pub returns : goal.returns
+returns c = lengths_told _ _ c.in_ok-all.ensures c.lengths_tested.ensures

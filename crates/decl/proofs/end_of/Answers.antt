@@ -4,9 +4,6 @@ use borrow.Author.Rules.{rules}
 use Rattle.decl.proofs.Lists.{first_step, part_in_sum}
 use Rattle.decl.proofs.end_of.Goals as goal
 
-pub overflow_cast-result : goal.overflow_cast-result
-overflow_cast-result c = omega (arith, c.type_inv.widths c.args.a)
-
 pub overflow_add-result : goal.overflow_add-result
 overflow_add-result c = omega (arith, part_in_sum c.args.widths.now c.args.a)
 

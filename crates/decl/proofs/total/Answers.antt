@@ -1,20 +1,11 @@
-use mathlib.Core.Path.{sym, ◌∙◌}
-use native.Mathlib.Omega.{arith}
-use borrow.Author.Rules.{rules}
-use Rattle.decl.proofs.Lists.{first_none, first_step, first_all}
+-- `decl::total` meets its contract: the iterator's sum is the rules', and each number has 32 bits.
+use Rattle.std.proofs.Common.{rules, of_calls, sym, ◌≡◌, ◌∙◌, arith}
+use Rattle.std.specs.List as whole
+use Rattle.decl.proofs.Lists.{sum_is, sum_in}
 use Rattle.decl.proofs.total.Goals as goal
 
-pub loop-k-init : goal.loop-k-init
-loop-k-init c = (search rules, sym (first_none _), search rules)
-
-pub overflow_cast-sum : goal.overflow_cast-sum
-overflow_cast-sum c = omega (arith, c.type_inv.xs c.loop-k.k)
-
-pub overflow_add-sum : goal.overflow_add-sum
-overflow_add-sum c = omega (arith, c.type_inv.xs c.loop-k.k)
-
-pub loop-k-preserved : goal.loop-k-preserved
-loop-k-preserved c = (search rules, first_step _ _ _ c.loop-k.invariant.1, omega (arith, c.type_inv.xs c.loop-k.k))
-
 pub returns : goal.returns
-returns c = (c.loop-k.invariant.1 ∙ first_all _ _ c.loop-k-test.false, omega arith)
+returns c =
+    let e : c.sum.result ≡ whole.sum c.args.xs.now = search (rules, of_calls) in
+    let is = e ∙ sym (sum_is c.args.xs.now) in
+    (is, omega (arith, is, sum_in 4294967295 c.args.xs.now (λ k. omega (arith, c.type_inv.xs k))))

@@ -3,4 +3,4 @@ use Rattle.crossing.proofs.Telling.{retold}
 use Rattle.exports_columns.proofs.verdict_columns_lookup.Goals as goal
 
 pub returns : goal.returns
-returns c = retold c.column_of-answer.ensures c.looked.ensures
+returns c = retold c.column_of.ensures c.cross.ensures

@@ -3,4 +3,4 @@ use Rattle.crossing.proofs.Telling.{passed}
 use Rattle.exports_columns.proofs.verdict_columns_put.Goals as goal
 
 pub returns : goal.returns
-returns c = passed c.put-answer.ensures c.stored.ensures
+returns c = passed c.put.ensures c.code.ensures

@@ -3,4 +3,4 @@ use Rattle.crossing.proofs.Telling.{passed}
 use Rattle.exports_reads.proofs.verdict_store_borrow.Goals as goal
 
 pub returns : goal.returns
-returns c = rw (← c.head_of.ensures) (passed c.borrow-answer.ensures c.tested.ensures)
+returns c = rw (← c.head_of.ensures) (passed c.borrow-answer.ensures c.code.ensures)

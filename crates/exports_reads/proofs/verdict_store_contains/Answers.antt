@@ -3,4 +3,4 @@ use Rattle.crossing.proofs.Telling.{retold}
 use Rattle.exports_reads.proofs.verdict_store_contains.Goals as goal
 
 pub returns : goal.returns
-returns c = rw (← c.head_of.ensures) (retold c.contains-answer.ensures c.contained.ensures)
+returns c = rw (← c.head_of.ensures) (retold c.contains.ensures c.cross.ensures)

@@ -3,4 +3,4 @@ use Rattle.crossing.proofs.Telling.{retold}
 use Rattle.exports_reads.proofs.verdict_store_read.Goals as goal
 
 pub returns : goal.returns
-returns c = rw (← c.head_of.ensures) (retold c.read-answer.ensures c.part.ensures)
+returns c = rw (← c.head_of.ensures) (retold c.read.ensures c.cross.ensures)

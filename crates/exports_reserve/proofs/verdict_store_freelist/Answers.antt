@@ -3,4 +3,4 @@ use Rattle.crossing.proofs.Telling.{crossed}
 use Rattle.exports_reserve.proofs.verdict_store_freelist.Goals as goal
 
 pub returns : goal.returns
-returns c = rw (← c.head_of.ensures) (crossed c.freelist-answer.ensures c.counted.ensures)
+returns c = rw (← c.head_of.ensures) (crossed c.freelist.ensures c.cross.ensures)

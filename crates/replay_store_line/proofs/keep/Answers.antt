@@ -1,8 +1,9 @@
--- Table after table.
-use Rattle.replay_store_line.specs.Store.{kept_all}
+-- The list from a position on, if it goes so far.
+use Rattle.replay_store_line.proofs.Kept.{within, past}
 use Rattle.replay_store_line.proofs.keep.Goals as goal
 
-pub returns : goal.returns
-unfolding kept_all
-returns c =
-    rw (c.keep_words-2.ensures, c.keep_bytes.ensures, c.keep_numbers-6.ensures, c.keep_numbers-5.ensures, c.keep_numbers-4.ensures, c.keep_numbers-3.ensures, c.keep_numbers-2.ensures, c.keep_numbers.ensures, c.keep_words.ensures)
+pub returns-then-at-list : goal.returns-then-at-list
+returns-then-at-list g c = within g.T.Keeps.keeps c.args.list.now c.args.at c.args.values.now _ c.if-at-list.true c.fill.ensures
+
+pub returns-else-at-list : goal.returns-else-at-list
+returns-else-at-list g c = past g.T.Keeps.keeps c.args.list.now c.args.at c.args.values.now c.if-at-list.false

@@ -1,17 +1,16 @@
 -- `row_step::remove` meets its contract: no such row, the last row, or another, over which the last is copied.
-use Rattle.row_step.proofs.Steps.{no_archetype, no_row, last_row, other_row}
+use Rattle.std.proofs.Common.{arith}
+use Rattle.std.proofs.lemmas.Grind.{common_steps}
+use Rattle.row_step.proofs.Steps.{no_row, last_row, other_row}
 use Rattle.row_step.proofs.remove.Goals as goal
 
-pub returns-then-counts-archetype : goal.returns-then-counts-archetype
-returns-then-counts-archetype c = no_archetype _ _ _ _ _ _ _ c.if-counts-archetype.true
+pub returns-then-count-row : goal.returns-then-count-row
+returns-then-count-row c = no_row _ _ _ _ _ _ _ _ (grind (arith, common_steps)) c.if-count-row.true
 
-pub returns-then-counts-archetype-2 : goal.returns-then-counts-archetype-2
-returns-then-counts-archetype-2 c = no_row _ _ _ _ _ _ _ c.if-counts-archetype-2.true
-
-pub returns-then-row-last : goal.returns-then-row-last
-returns-then-row-last c = last_row _ _ _ _ _ _ _ c.if-counts-archetype-2.false c.if-row-last.true
+pub returns-then-eq : goal.returns-then-eq
+returns-then-eq c = last_row _ _ _ _ _ _ _ _ (grind (arith, common_steps)) c.if-count-row.false c.if-eq.ensures
 
 pub returns : goal.returns
 returns c =
-    other_row _ _ _ _ _ _ _ _ _ _ c.if-counts-archetype-2.false c.if-row-last.false c.number_at-number.ensures
-    c.set_number.ensures c.carry.ensures
+    other_row _ _ _ _ _ _ _ _ (grind (arith, common_steps)) c.if-count-row.false _ _ _ c.if-eq.ensures
+    c.number_at-number.ensures c.set_number.ensures _ _ c.line.ensures c.line-2.ensures c.carry.ensures

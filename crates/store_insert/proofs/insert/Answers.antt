@@ -1,38 +1,24 @@
--- `store_insert::insert` meets its contract: the first tests, the bits, the entity, then the step.
-use native.Mathlib.Omega.{arith}
-use mathlib.Core.Path.{◌∙◌}
-use Rattle.refusal.specs.Laws.{refuse, via, told}
-use Rattle.store_tables.proofs.Entering.{entered}
-use Rattle.store_tables.proofs.Entities.{entity_said}
-use Rattle.store_insert.proofs.Calling.{unfit, asks, fit, insert_first, insert_zero, insert_good, insert_right}
+-- `store_insert::insert` meets its contract: the component is overwritten, or the row has moved.
+use Rattle.store_insert.proofs.Coming.{over_there, over_sized, is_over, may_move, from_there, to_there, has_come}
 use Rattle.store_insert.proofs.insert.Goals as goal
 
-pub returns-in-Refused : goal.returns-in-Refused
-returns-in-Refused c = refuse (insert_first _ _ _ _ _ c.wrong_size-short.ensures (told _ _ c.tested.ensures c.in-Refused.is))
+pub overwrite-requires-clause-span_value : goal.overwrite-requires-clause-span_value
+overwrite-requires-clause-span_value c = over_there _ _ _ _ _ _ _ c.in_ok-span.ensures.0 _ c.in_ok-span.ensures.1 _ c.in-Over.is
 
-pub returns-in_default-from_bits : goal.returns-in_default-from_bits
-returns-in_default-from_bits c = refuse (insert_zero _ _ _ _ _ c.wrong_size-short.ensures (told _ _ c.tested.ensures c.in_default.is) _ _ c.from_bits.ensures c.in_default-from_bits.is)
+pub overwrite-requires-clause-kind_value : goal.overwrite-requires-clause-kind_value
+overwrite-requires-clause-kind_value c = over_sized _ _ _ _ _ _ _ c.in_ok-span.ensures.0 _ c.in_ok-span.ensures.1 _ c.in-Over.is
 
-pub insert_at-requires : goal.insert_at-requires
-insert_at-requires c = record { entered = (entered _ _ (told _ _ c.tested.ensures c.in_default.is)); span_value = (asks _ (entered _ _ (told _ _ c.tested.ensures c.in_default.is)) _ _ _ _ (entity_said _ _ c.entity_at.ensures c.in-At.is) _ c.id.ensures).0; number_value = ((asks _ (entered _ _ (told _ _ c.tested.ensures c.in_default.is)) _ _ _ _ (entity_said _ _ c.entity_at.ensures c.in-At.is) _ c.id.ensures).1, insert_right _ _ _ _ c.wrong_size-short.ensures (told _ _ c.tested.ensures c.in_default.is)) }
+pub take_in-requires-clause-moving : goal.take_in-requires-clause-moving
+take_in-requires-clause-moving c = may_move _ _ _ _ _ _ _ c.in_ok-span.ensures.0 _ c.in_ok-span.ensures.1 _ _ c.in-Into.is
 
-pub returns-in-Refused-entity_at : goal.returns-in-Refused-entity_at
-returns-in-Refused-entity_at c = refuse (insert_good _ _ _ _ _ c.wrong_size-short.ensures (told _ _ c.tested.ensures c.in_default.is) _ _ c.from_bits.ensures c.in-Good.is ∙ unfit _ (entered _ _ (told _ _ c.tested.ensures c.in_default.is)) _ _ _ _ (entity_said _ _ c.entity_at.ensures c.in-Refused-entity_at.is))
+pub take_in-requires-clause-span_value : goal.take_in-requires-clause-span_value
+take_in-requires-clause-span_value c = from_there _ _ _ _ _ _ _ c.in_ok-span.ensures.0 _ c.in_ok-span.ensures.1 _ _ c.in-Into.is
 
-pub returns-in-At : goal.returns-in-At
-returns-in-At c = via (insert_good _ _ _ _ _ c.wrong_size-short.ensures (told _ _ c.tested.ensures c.in_default.is) _ _ c.from_bits.ensures c.in-Good.is) (fit _ (entered _ _ (told _ _ c.tested.ensures c.in_default.is)) _ _ _ _ (entity_said _ _ c.entity_at.ensures c.in-At.is) _ c.id.ensures _ _ c.insert_at.ensures)
+pub take_in-requires-clause-target_value : goal.take_in-requires-clause-target_value
+take_in-requires-clause-target_value c = to_there _ _ _ _ _ _ _ c.in_ok-span.ensures.0 _ c.in_ok-span.ensures.1 _ _ c.in-Into.is
 
-pub shape_of-archetypes-in-At : goal.shape_of-archetypes-in-At
-shape_of-archetypes-in-At c = omega (arith, c.archetypes-1.given)
+pub returns-in-Over : goal.returns-in-Over
+returns-in-Over c = is_over _ _ _ _ _ _ _ c.in_ok-span.ensures.0 _ c.in_ok-span.ensures.1 _ c.in-Over.is _ c.overwrite.ensures
 
-pub shape_of-indices-in-At : goal.shape_of-indices-in-At
-shape_of-indices-in-At c = omega (arith, c.indices-1.given)
-
-pub shape_of-numbers-in-At : goal.shape_of-numbers-in-At
-shape_of-numbers-in-At c = omega (arith, c.numbers-1.given)
-
-pub shape_of-counts-in-At : goal.shape_of-counts-in-At
-shape_of-counts-in-At c = omega (arith, c.counts-1.given)
-
-pub shape_of-bytes-in-At : goal.shape_of-bytes-in-At
-shape_of-bytes-in-At c = omega (arith, c.bytes-1.given)
+pub returns-in-Into : goal.returns-in-Into
+returns-in-Into c = has_come _ _ _ _ _ _ _ c.in_ok-span.ensures.0 _ c.in_ok-span.ensures.1 _ _ c.in-Into.is _ _ _ c.take_in.ensures

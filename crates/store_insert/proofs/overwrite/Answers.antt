@@ -6,14 +6,8 @@ use Rattle.store_insert.proofs.overwrite.Goals as goal
 pub overflow_add-to : goal.overflow_add-to
 overflow_add-to c = omega (arith, over_room _ c.requires.kept _ _ c.requires.span_value.0 _ _ c.requires.kind_value.0)
 
-pub offset_bounds-sizes-from : goal.offset_bounds-sizes-from
-offset_bounds-sizes-from c = omega (arith, over_room _ c.requires.kept _ _ c.requires.span_value.0 _ _ c.requires.kind_value.0)
-
-pub slice_bounds-past-count : goal.slice_bounds-past-count
-slice_bounds-past-count c = omega (arith, over_room _ c.requires.kept _ _ c.requires.span_value.0 _ _ c.requires.kind_value.0)
-
-pub slice_bounds-past-start : goal.slice_bounds-past-start
-slice_bounds-past-start c = omega (arith, over_room _ c.requires.kept _ _ c.requires.span_value.0 _ _ c.requires.kind_value.0)
+pub offset_bounds-declaration-from : goal.offset_bounds-declaration-from
+offset_bounds-declaration-from c = omega (arith, over_room _ c.requires.kept _ _ c.requires.span_value.0 _ _ c.requires.kind_value.0)
 
 pub slice_bounds-past-end : goal.slice_bounds-past-end
 slice_bounds-past-end c = omega (arith, over_room _ c.requires.kept _ _ c.requires.span_value.0 _ _ c.requires.kind_value.0)

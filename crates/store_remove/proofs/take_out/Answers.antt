@@ -7,20 +7,5 @@ use Rattle.store_remove.proofs.take_out.Goals as goal
 pub overflow_add-column : goal.overflow_add-column
 overflow_add-column c = omega (arith, next_small _ _ _ _ _ c.requires.moving _ _ c.requires.span_value.0 c.span-there.ensures _ c.requires.span_value.1)
 
-pub shape_of-archetypes : goal.shape_of-archetypes
-shape_of-archetypes c = omega (arith, c.archetypes-1.given)
-
-pub shape_of-indices : goal.shape_of-indices
-shape_of-indices c = omega (arith, c.indices-1.given)
-
-pub shape_of-numbers : goal.shape_of-numbers
-shape_of-numbers c = omega (arith, c.numbers-1.given)
-
-pub shape_of-counts : goal.shape_of-counts
-shape_of-counts c = omega (arith, c.counts-1.given)
-
-pub shape_of-bytes : goal.shape_of-bytes
-shape_of-bytes c = omega (arith, c.bytes-1.given)
-
 pub returns : goal.returns
 returns c = took_out _ _ _ _ _ c.requires.moving _ _ c.requires.span_value.0 c.span-there.ensures _ _ _ _ c.requires.span_value.1 c.requires.span_value.2 _ refl _ c.gather.ensures _ c.move_row.ensures

@@ -1,13 +1,14 @@
 -- `store_reserve::reserve_entity` meets its contract: past the first tests, what the id layer says.
-use Rattle.refusal.specs.Laws.{refuse, via, told, halted, past}
+use mathlib.Core.Path.{refl}
+use Rattle.refusal.specs.Laws.{refuse, via, halted, past, handed_up_by}
 use Rattle.store_reserve.specs.Reserve.{reserving}
 use Rattle.store_reserve.proofs.Lifting.{did_within}
 use Rattle.store_reserve.proofs.reserve_entity.Goals as goal
 
-pub returns-in-Refused : goal.returns-in-Refused
+pub returns-in_err-tested : goal.returns-in_err-tested
 unfolding reserving
-returns-in-Refused c = refuse (halted _ _ (told _ _ c.tested.ensures c.in-Refused.is))
+returns-in_err-tested c = rw (handed_up_by _ _ _ c.from_residual.ensures.1 refl) (refuse (halted _ _ c.in_err-tested.ensures))
 
 pub returns : goal.returns
 unfolding reserving
-returns c = via (past _ _ (told _ _ c.tested.ensures c.in_default.is)) (did_within _ _ c.reserve_entity.ensures)
+returns c = via (past _ _ c.in_ok-tested.ensures) (did_within _ _ c.reserve_entity.ensures)

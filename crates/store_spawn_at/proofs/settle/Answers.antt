@@ -1,28 +1,6 @@
 -- `store_spawn_at::settle` meets its contract: the number has its row, and the id layer grants it that.
-use native.Mathlib.Omega.{arith}
 use Rattle.store_spawn_at.proofs.Taking.{settles}
 use Rattle.store_spawn_at.proofs.settle.Goals as goal
-
-pub shape_of-generations : goal.shape_of-generations
-shape_of-generations c = omega (arith, c.generations-1.given)
-
-pub shape_of-archetypes : goal.shape_of-archetypes
-shape_of-archetypes c = omega (arith, c.archetypes-2-1.given, c.archetypes-1.given)
-
-pub shape_of-indices : goal.shape_of-indices
-shape_of-indices c = omega (arith, c.indices-2-1.given, c.indices-1.given)
-
-pub shape_of-pending : goal.shape_of-pending
-shape_of-pending c = omega (arith, c.pending-1.given)
-
-pub shape_of-numbers : goal.shape_of-numbers
-shape_of-numbers c = omega (arith, c.numbers-1.given)
-
-pub shape_of-counts : goal.shape_of-counts
-shape_of-counts c = omega (arith, c.counts-1.given)
-
-pub shape_of-bytes : goal.shape_of-bytes
-shape_of-bytes c = omega (arith, c.bytes-1.given)
 
 pub returns : goal.returns
 returns c = settles _ _ _ _ _ _ _ _ _ _ _ _ _ _ _ _ c.reseat-place.ensures c.alloc_at.ensures

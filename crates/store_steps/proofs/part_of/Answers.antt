@@ -1,12 +1,6 @@
--- `store_steps::part_of` meets its contract: the table has none of the columns, some of them, or all.
-use Rattle.store_steps.proofs.Stepping.{part_none, part_some, part_all}
+-- `store_steps::part_of` meets its contract: what is cut off twice is what the span says.
+use Rattle.store_steps.proofs.Stepping.{part_cut}
 use Rattle.store_steps.proofs.part_of.Goals as goal
 
-pub returns-then-table-from : goal.returns-then-table-from
-returns-then-table-from c = part_none _ _ c.if-table-from.true
-
-pub returns-then-table-from-2 : goal.returns-then-table-from-2
-returns-then-table-from-2 c = part_some _ _ c.if-table-from-2.true
-
 pub returns : goal.returns
-returns c = part_all _ _
+returns c = part_cut _ _ _ _ c.min.ensures c.min-2.ensures

@@ -1,12 +1,11 @@
-use mathlib.Core.Path.{sym, ◌∙◌}
-use Rattle.decl.proofs.Lists.{above_here, above_next, above_none}
+-- `decl::exact::any_above` meets its contract: the iterator tells whether some number is above max.
+use Rattle.std.proofs.Common.{rules, tests, ltb, ◌∙◌}
+use Rattle.std.proofs.lemmas.Iterator.{YieldsList-from_slice}
+use Rattle.std.proofs.lemmas.Iterator.Search.{any_from_yields_List}
+use Rattle.decl.proofs.Lists.{above_any}
 use Rattle.decl.proofs.exact.any_above.Goals as goal
 
-pub returns-then-max-xs : goal.returns-then-max-xs
-returns-then-max-xs c = sym (c.loop-i.invariant ∙ above_here _ _ _ c.loop-i-test.true c.if-max-xs.true)
-
-pub loop-i-preserved : goal.loop-i-preserved
-loop-i-preserved c = c.loop-i.invariant ∙ above_next _ _ _ c.loop-i-test.true c.if-max-xs.false
-
 pub returns : goal.returns
-returns c = sym (c.loop-i.invariant ∙ above_none _ _ _ c.loop-i-test.false)
+returns c =
+    any_from_yields_List (ltb c.args.max) _ _ _ c.any.ensures.ran (YieldsList-from_slice c.args.xs.now cc) (λ x b q k. search (rules, tests))
+    ∙ above_any c.args.max c.args.xs.now

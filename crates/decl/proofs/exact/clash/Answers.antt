@@ -1,10 +1,7 @@
 use native.Mathlib.Omega.{arith}
 use borrow.Author.Rules.{rules}
-use Rattle.decl.proofs.Merge.{walk_start, walk_found, walk_both, walk_left, walk_right, walk_short, walk_differ, walk_same}
+use Rattle.decl.proofs.Merge.{walk_found, walk_both, walk_left, walk_right, walk_short, walk_differ, walk_same}
 use Rattle.decl.proofs.exact.clash.Goals as goal
-
-pub loop-i-init : goal.loop-i-init
-loop-i-init c = (search rules, search rules, walk_start _ _ _ _)
 
 pub returns-then-ys-j : goal.returns-then-ys-j
 returns-then-ys-j c = walk_short _ _ _ _ _ _ _ c.loop-i.invariant.2 c.loop-i-test.true c.if-ys-j.true

@@ -1,16 +1,8 @@
-use mathlib.Core.Path.{refl, sym, ◌∙◌}
-use borrow.Author.Rules.{rules}
-use Rattle.decl.proofs.Lists.{rising_stop, rising_next, rising_end}
+-- `decl::exact::is_rising` meets its contract: the library compares each number with the next.
+use Rattle.std.proofs.Common.{rules, tests, ltb}
+use Rattle.std.proofs.lemmas.List.Sorted.{answers_always}
+use Rattle.decl.proofs.Lists.{rising_answer}
 use Rattle.decl.proofs.exact.is_rising.Goals as goal
 
-pub loop-i-init : goal.loop-i-init
-loop-i-init c = (search rules, refl)
-
-pub returns-then-xs-i : goal.returns-then-xs-i
-returns-then-xs-i c = sym (c.loop-i.invariant.1 ∙ rising_stop _ _ c.loop-i-test.true c.if-xs-i.true)
-
-pub loop-i-preserved : goal.loop-i-preserved
-loop-i-preserved c = (search rules, c.loop-i.invariant.1 ∙ rising_next _ _ c.loop-i-test.true c.if-xs-i.false)
-
 pub returns : goal.returns
-returns c = sym (c.loop-i.invariant.1 ∙ rising_end _ _ c.loop-i-test.false)
+returns c = rising_answer c.args.xs.now _ (c.is_sorted_by.ensures.cases ltb (answers_always _ _ _ (λ f a r q k. search (rules, tests))))

@@ -1,27 +1,18 @@
-use native.Mathlib.Omega.{arith}
-use Rattle.decl.proofs.Glancing.{going_start, going_next, going_end}
+use Rattle.std.proofs.Common.{arith}
+use Rattle.std.proofs.lemmas.List.{length_push}
+use Rattle.std.proofs.lemmas.Slice.Zip.{zip_turn, zip_end}
+use Rattle.decl.proofs.Glancing.{going_next, going_end}
 use Rattle.decl.proofs.quick.width_of.Goals as goal
 
-pub loop-p-init : goal.loop-p-init
-loop-p-init c = (omega arith, going_start _ _ _ _)
-
-pub overflow_cast-x : goal.overflow_cast-x
-overflow_cast-x c = omega (arith, c.type_inv.types c.loop-p.p)
-
-pub bounds-sizes-p : goal.bounds-sizes-p
-bounds-sizes-p c = omega (arith, c.requires)
-
-pub overflow_add-least : goal.overflow_add-least
-overflow_add-least c = omega (arith, c.type_inv.types c.loop-p.p)
-
-pub overflow_cast-width : goal.overflow_cast-width
-overflow_cast-width c = omega (arith, c.if-s-gt-SIZE.false)
-
-pub overflow_add-width : goal.overflow_add-width
-overflow_add-width c = omega (arith, c.loop-p.invariant.1.narrow, c.if-s-gt-SIZE.false, c.requires)
-
-pub loop-p-preserved : goal.loop-p-preserved
-loop-p-preserved c = (omega arith, going_next _ _ _ _ c.loop-p.invariant.1 c.loop-p-test.true (omega (arith, c.requires)) c.if-x-least.false c.if-s-gt-SIZE.false)
+pub loop-x-preserved : goal.loop-x-preserved
+loop-x-preserved c =
+    let turn = zip_turn c.args.types.now c.args.sizes.now c.loop-x.yielded _ c.loop-x.x-iterator c.next.new.self c.next.result (cc) (cc) c.loop-x.yielded_by _ c.in-Some.is c.next.ensures.steps in
+    let kind = turn.2 0 in
+    let size = turn.3 0 in
+    rw (length_push c.loop-x.yielded (c.in-Some.field-0-0, c.in-Some.field-0-1), kind, size)
+    (going_next _ _ _ _ c.loop-x.invariant turn.0 (omega (arith, c.requires)) (omega (arith, kind, c.if-x-least.false)) (omega (arith, size, c.if-s-gt-SIZE.false)))
 
 pub returns : goal.returns
-returns c = record { told = going_end _ _ _ _ c.loop-p.invariant.1 c.loop-p.invariant.0 c.loop-p-test.false }
+returns c =
+    let end = zip_end c.args.types.now c.args.sizes.now c.loop-x.yielded _ c.loop-x.x-iterator c.next.new.self c.next.result (cc) (cc) c.loop-x.yielded_by c.in-None.is c.next.ensures.steps in
+    record { told = going_end _ _ _ _ c.loop-x.invariant (omega (arith, end, c.requires)) (omega (arith, end, c.requires)) }

@@ -1,6 +1,7 @@
--- `exports_ids::verdict_ids_clear` meets its contract.
-use Rattle.crossing.proofs.Telling.{passed_ids}
+-- `exports_ids::numbers::verdict_ids_clear` meets its contract: the call's promise, crossed.
+use Rattle.id_tables.proofs.Heads.{cleared_head}
+use Rattle.exports_ids.proofs.Laws.{passed_head}
 use Rattle.exports_ids.proofs.numbers.verdict_ids_clear.Goals as goal
 
 pub returns : goal.returns
-returns c = rw (← c.head_of.ensures) (passed_ids c.clear-answer.ensures c.done.ensures.0 (rw (← c.head_of.ensures) at c.done.ensures.1))
+returns c = passed_head (cleared_head _) (rw c.lent-ids.ensures at c.clear-answer.ensures) c.put_head.ensures c.code.ensures

@@ -1,7 +1,8 @@
--- `exports_ids::verdict_ids_reserve_span` meets its contract.
-use mathlib.Core.Path.{refl}
-use Rattle.exports_ids.proofs.Laws.{crossed_span}
+-- `exports_ids::walks::verdict_ids_reserve_span` meets its contract: the call's promise, crossed.
+use borrow.Author.Rules.{rules}
+use Rattle.id_readers.proofs.Heads.{spanned_head}
+use Rattle.exports_ids.proofs.Laws.{crossed_head}
 use Rattle.exports_ids.proofs.walks.verdict_ids_reserve_span.Goals as goal
 
 pub returns : goal.returns
-returns c = rw (← c.head_of.ensures) (crossed_span _ _ c.reserve_span-span.ensures.0 c.reserve_span-span.ensures.1 c.done.ensures.0 (rw (← c.head_of.ensures) at c.done.ensures.1) refl)
+returns c = crossed_head (spanned_head _ _) (rw c.lent-ids.ensures at c.reserve_span-answer.ensures) c.put_head.ensures (search rules)

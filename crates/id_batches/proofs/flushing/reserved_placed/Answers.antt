@@ -1,6 +1,5 @@
 -- `id_batches::flushing::reserved_placed` meets its contract: each return is a way through its rule.
 use mathlib.Core.Path.{sym, ◌∙◌}
-use native.Mathlib.Omega.{arith}
 use borrow.Author.Rules.{rules}
 use Rattle.refusal.specs.Laws.{refuse}
 use Rattle.id_batches.proofs.Ways.{flush_past, flush_damaged, flush_below, flush_done}
@@ -15,9 +14,6 @@ returns-then-any_damaged c =
 
 pub place_old-requires : goal.place_old-requires
 place_old-requires c = record { numbers_bound = search rules; numbers_value = flush_below _ _ _ _ _ _ _ _ c.requires (sym c.any_damaged.ensures ∙ c.if-any_damaged.false) c.place_new.ensures }
-
-pub overflow_add-head : goal.overflow_add-head
-overflow_add-head c = omega (arith, c.fresh-fresh.ensures, c.free-free.ensures, c.requires)
 
 pub returns : goal.returns
 returns c =

@@ -1,14 +1,15 @@
-use mathlib.Core.Path.{refl}
-use borrow.Author.Rules.{rules}
-use Rattle.id_batches.proofs.Setting.{rest_all, rest_none, new_next, up_in, up_here, up_end}
+-- `id_batches::loops::list_new` meets its contract: the part of the output is written whole.
+use Prim.Native.Nat.{◌+◌}
+use mathlib.Core.Path.{◌≡◌, sym, ◌∙◌}
+use Rattle.std.proofs.Common.{rules, arith}
+use Rattle.handle.specs.Bits.{bits_of}
+use Rattle.id_tables.specs.Runs.{up_from, length_up_from}
+use Rattle.id_batches.specs.Reserve.{new_handles}
+use Rattle.id_batches.proofs.Setting.{new_at, new_long}
+use Rattle.id_batches.proofs.Writing.{written_at}
 use Rattle.id_batches.proofs.loops.list_new.Goals as goal
 
-pub loop-i-init : goal.loop-i-init
-loop-i-init c = (search rules, rest_all _ _ _, refl)
-
-pub loop-i-preserved : goal.loop-i-preserved
-loop-i-preserved c =
-    (search rules, new_next _ _ _ _ _ _ c.loop-i.invariant.1 c.loop-i-test.true (up_in _ c.loop-i-test.true) refl (up_here _ c.loop-i-test.true) c.bits_of.ensures, search rules)
-
 pub returns : goal.returns
-returns c = rest_none c.loop-i.invariant.1 (up_end _ c.loop-i-test.false)
+returns c =
+    written_at _ c.args.out.now _ (new_handles (up_from c.args.from c.args.count)) c.args.position c.args.count _ c.write.ensures (search rules) (new_long _ ∙ length_up_from _ _) (omega arith) (omega arith)
+    (λ i v h p. let q : v ≡ bits_of 1 (c.args.from + i) = search rules in q ∙ sym (new_at _ _ i h))

@@ -1,27 +1,13 @@
+-- `id_batches::loops::list_old` meets its contract: the part of the output is written whole.
 use mathlib.Core.Path.{refl}
-use native.Mathlib.Omega.{arith}
-use borrow.Author.Rules.{rules}
-use Rattle.id_tables.proofs.Damage.{below_at}
-use Rattle.id_batches.proofs.Setting.{rest_all, rest_none, old_next, up_end}
+use lib.ListN.{length}
+use Rattle.std.proofs.Common.{rules, arith}
+use Rattle.id_batches.specs.Reserve.{old_handles}
+use Rattle.id_batches.proofs.Setting.{old_long}
+use Rattle.id_batches.proofs.Writing.{written_at}
 use Rattle.id_batches.proofs.loops.list_old.Goals as goal
 
-pub loop-i-init : goal.loop-i-init
-loop-i-init c = (search rules, rest_all _ _ _, refl)
-
-pub overflow_cast-number : goal.overflow_cast-number
-overflow_cast-number c = omega (arith, c.type_inv.numbers c.loop-i.i)
-
--- the number is one that the table has
-
-pub offset_bounds-generations-number : goal.offset_bounds-generations-number
-offset_bounds-generations-number c = let h = below_at _ _ c.requires.1 c.loop-i.i c.loop-i-test.true in search rules
-
-pub bounds-generations-number : goal.bounds-generations-number
-bounds-generations-number c = below_at _ _ c.requires.1 c.loop-i.i c.loop-i-test.true
-
-pub loop-i-preserved : goal.loop-i-preserved
-loop-i-preserved c =
-    (search rules, old_next _ _ _ _ _ _ _ c.loop-i.invariant.1 c.loop-i-test.true c.loop-i-test.true (omega arith) refl c.bits_of.ensures, search rules)
-
 pub returns : goal.returns
-returns c = rest_none c.loop-i.invariant.1 (up_end 0 c.loop-i-test.false)
+returns c =
+    written_at _ c.args.out.now _ (old_handles c.args.generations.now c.args.numbers.now) 0 (length c.args.numbers.now) _ c.write.ensures (search rules) (old_long _ _ refl) (omega arith) (omega arith)
+    (λ i v h p. search rules)

@@ -21,11 +21,11 @@ returns-then-count-generations c = refuse (many_full _ _ _ _ (sym c.is_flushed.e
 
 pub returns-then-any_damaged : goal.returns-then-any_damaged
 returns-then-any_damaged c =
-    refuse (many_damaged _ _ _ _ (sym c.is_flushed.ensures ∙ not-false _ (ap not c.if-not-is_flushed.false)) (search rules) c.if-first-n.false c.if-count-generations.false _ c.minus-left.ensures (sym c.any_damaged.ensures ∙ c.if-any_damaged.true))
+    refuse (many_damaged _ _ _ _ (sym c.is_flushed.ensures ∙ not-false _ (ap not c.if-not-is_flushed.false)) (search rules) c.if-first-n.false c.if-count-generations.false _ c.saturating_sub.ensures (sym c.any_damaged.ensures ∙ c.if-any_damaged.true))
 
 pub many_placed-requires : goal.many_placed-requires
-many_placed-requires c = record { entry_ok = c.requires; n_bound = (omega (arith, c.if-first-n.false), c.if-count-generations.false, many_whole (ids_of c.args.head c.args.generations.now c.args.archetypes.now c.args.indices.now c.args.pending.now) c.args.n _ c.minus-left.ensures (sym c.any_damaged.ensures ∙ c.if-any_damaged.false)) }
+many_placed-requires c = record { entry_ok = c.requires; n_bound = (omega (arith, c.if-first-n.false), c.if-count-generations.false, many_whole (ids_of c.args.head.now c.args.generations.now c.args.archetypes.now c.args.indices.now c.args.pending.now) c.args.n _ c.saturating_sub.ensures (sym c.any_damaged.ensures ∙ c.if-any_damaged.false)) }
 
 pub returns : goal.returns
 returns c =
-    many_done _ _ _ _ (sym c.is_flushed.ensures ∙ not-false _ (ap not c.if-not-is_flushed.false)) (search rules) c.if-first-n.false c.if-count-generations.false _ c.minus-left.ensures _ _ (sym c.any_damaged.ensures ∙ c.if-any_damaged.false) c.many_placed.ensures
+    many_done _ _ _ _ (sym c.is_flushed.ensures ∙ not-false _ (ap not c.if-not-is_flushed.false)) (search rules) c.if-first-n.false c.if-count-generations.false _ c.saturating_sub.ensures _ _ (sym c.any_damaged.ensures ∙ c.if-any_damaged.false) c.many_placed.ensures

@@ -1,17 +1,15 @@
 -- `id_readers::spans::reserve_span` meets its contract: the first tests, then what is left.
-use Rattle.refusal.specs.Laws.{told, halted, past}
+use Rattle.refusal.specs.Laws.{via}
 use Rattle.id_tables.proofs.Entering.{entry_ok}
-use Rattle.id_readers.specs.Reader.{part_reserved, reserving_part}
-use Rattle.id_readers.proofs.Ways.{refuse_span, via_span}
+use Rattle.id_batches.proofs.Upward.{hands_up_by}
+use Rattle.id_readers.proofs.Ways.{span_untested, span_tested}
 use Rattle.id_readers.proofs.spans.reserve_span.Goals as goal
 
-pub returns-in-Refused : goal.returns-in-Refused
-unfolding reserving_part
-returns-in-Refused c = refuse_span _ _ reserving_part _ _ c.no_span.ensures (halted _ _ (told _ _ c.tested.ensures c.in-Refused.is))
+pub returns-in_err-tested : goal.returns-in_err-tested
+returns-in_err-tested c = hands_up_by _ _ _ c.from_residual.ensures.1 (span_untested _ _ c.in_err-tested.ensures)
 
 pub span_reserved-requires : goal.span_reserved-requires
-span_reserved-requires c = entry_ok _ _ (told _ _ c.tested.ensures c.in_default.is)
+span_reserved-requires c = entry_ok _ _ c.in_ok-tested.ensures
 
 pub returns : goal.returns
-unfolding reserving_part
-returns c = via_span _ _ reserving_part part_reserved c.span_reserved.result (past _ _ (told _ _ c.tested.ensures c.in_default.is)) c.span_reserved.ensures
+returns c = via (span_tested _ _ c.in_ok-tested.ensures) c.span_reserved.ensures

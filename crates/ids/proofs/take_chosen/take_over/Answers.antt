@@ -2,8 +2,8 @@
 use Rattle.ids.proofs.Choosing.{over_did, over_refused}
 use Rattle.ids.proofs.take_chosen.take_over.Goals as goal
 
-pub returns-then-row : goal.returns-then-row
-returns-then-row c = over_refused _ _ _ _ c.place_at-old.ensures c.if-row.true
+pub returns-then-old : goal.returns-then-old
+returns-then-old c = over_refused _ _ _ _ c.place_at-old.ensures c.if-old.true
 
 pub returns : goal.returns
-returns c = over_did _ _ _ _ _ _ _ c.settle.ensures _ c.place_at-old.ensures c.if-row.false
+returns c = over_did _ _ _ _ _ _ _ c.settle.ensures _ c.place_at-old.ensures c.if-old.false

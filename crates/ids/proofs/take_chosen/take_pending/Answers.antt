@@ -1,14 +1,10 @@
 -- `ids::take_chosen::take_pending` meets its contract: damage is refused, and else the last entry is moved and the number settled.
 use mathlib.Core.Path.{sym, ◌∙◌}
-use native.Mathlib.Omega.{arith}
 use Rattle.ids.proofs.Choosing.{pending_did, pending_refused}
 use Rattle.ids.proofs.take_chosen.take_pending.Goals as goal
 
 pub returns-then-is_damaged : goal.returns-then-is_damaged
 returns-then-is_damaged c = pending_refused _ _ _ (sym c.is_damaged.ensures ∙ c.if-is_damaged.true)
-
-pub overflow_add-head : goal.overflow_add-head
-overflow_add-head c = omega (arith, c.requires.entry_ok.small, c.requires.entry_ok.used_in, c.requires.entry_ok.live_is)
 
 pub returns : goal.returns
 returns c =

@@ -1,26 +1,25 @@
 -- The tests of the rule, in its order.
-use Rattle.std.proofs.lemmas.Bool.{lt-ltb, le-ltb}
+use Rattle.std.proofs.Common.{arith}
+use Rattle.std.proofs.lemmas.Bool.Decides.{nat_tests}
 use Rattle.replay_line.specs.Text.{digit_of}
 use Rattle.replay_line.proofs.text.digit.Goals as goal
 
-pub returns-then-byte-lt48 : goal.returns-then-byte-lt48
+pub returns-in-48-to-57-clause-value : goal.returns-in-48-to-57-clause-value
 unfolding digit_of
-returns-then-byte-lt48 c = rw (lt-ltb _ _ c.if-byte-lt48.true)
+returns-in-48-to-57-clause-value c = grind (arith, nat_tests)
 
-pub returns-then-byte-lt58 : goal.returns-then-byte-lt58
+pub returns-in-97-to-102-clause-value : goal.returns-in-97-to-102-clause-value
 unfolding digit_of
-returns-then-byte-lt58 c = rw (le-ltb _ _ c.if-byte-lt48.false, lt-ltb _ _ c.if-byte-lt58.true)
+returns-in-97-to-102-clause-value c = grind (arith, nat_tests)
 
-pub returns-then-byte-lt97 : goal.returns-then-byte-lt97
+pub returns-in_default-clause-value : goal.returns-in_default-clause-value
 unfolding digit_of
-returns-then-byte-lt97 c = rw (le-ltb _ _ c.if-byte-lt48.false, le-ltb _ _ c.if-byte-lt58.false, lt-ltb _ _ c.if-byte-lt97.true)
+returns-in_default-clause-value c = grind (arith, nat_tests)
 
-pub returns-then-byte-lt103 : goal.returns-then-byte-lt103
+pub returns-in_default-2-clause-value : goal.returns-in_default-2-clause-value
 unfolding digit_of
-returns-then-byte-lt103 c =
-    rw (le-ltb _ _ c.if-byte-lt48.false, le-ltb _ _ c.if-byte-lt58.false, le-ltb _ _ c.if-byte-lt97.false, lt-ltb _ _ c.if-byte-lt103.true)
+returns-in_default-2-clause-value c = grind (arith, nat_tests)
 
-pub returns : goal.returns
+pub returns-in_default-3-clause-value : goal.returns-in_default-3-clause-value
 unfolding digit_of
-returns c =
-    rw (le-ltb _ _ c.if-byte-lt48.false, le-ltb _ _ c.if-byte-lt58.false, le-ltb _ _ c.if-byte-lt97.false, le-ltb _ _ c.if-byte-lt103.false)
+returns-in_default-3-clause-value c = grind (arith, nat_tests)

@@ -5,12 +5,12 @@ use Rattle.replay_line.proofs.Turns.{turned, ended}
 use Rattle.replay_line.proofs.Bytes.{told}
 use Rattle.replay_line.proofs.text.numbers.Goals as goal
 
-pub loop-i-init : goal.loop-i-init
+pub loop-byte-init : goal.loop-byte-init
 unfolding read_from
-loop-i-init c = (refl, refl)
+loop-byte-init c = (refl, refl)
 
-pub loop-i-preserved : goal.loop-i-preserved
-loop-i-preserved c = (turned read _ _ _ _ _ c.loop-i-test.true c.loop-i.invariant.0 c.step-told.ensures, search rules)
+pub loop-byte-preserved : goal.loop-byte-preserved
+loop-byte-preserved c = (turned read _ _ _ _ 0 _ c.loop-byte-test.true c.loop-byte.invariant.0 c.step-told.ensures, search rules)
 
 pub returns : goal.returns
-returns c = told _ _ _ _ (ended read _ _ _ _ c.loop-i-test.false c.loop-i.invariant.0)
+returns c = told _ _ _ _ (ended read _ _ _ _ c.loop-byte-test.false c.loop-byte.invariant.0)

@@ -1,6 +1,6 @@
 -- `store_flush::flushing::seat_reserved` meets its contract: each return is a way through its rule.
-use mathlib.Core.Path.{sym, ◌∙◌}
-use Rattle.refusal.specs.Laws.{refuse}
+use mathlib.Core.Path.{refl, sym, ◌∙◌}
+use Rattle.refusal.specs.Laws.{refuse, handed_up}
 use Rattle.store_flush.proofs.Ways.{seat_held, seat_full, list_needs, seat_refused, seat_done}
 use Rattle.store_flush.proofs.flushing.seat_reserved.Goals as goal
 
@@ -13,9 +13,11 @@ returns-then-at-count c = refuse (seat_full _ (sym c.any_held.ensures ∙ c.if-a
 pub list_reserved-requires : goal.list_reserved-requires
 list_reserved-requires c = let e = list_needs _ (sym c.any_held.ensures ∙ c.if-any_held.false) _ _ _ _ c.at-count.ensures c.fresh.ensures c.free.ensures c.at.ensures c.requires c.if-at-count.false in record { cursor_bound = e.0; cursor_in_bounds = e.1 }
 
-pub returns-in-Refused : goal.returns-in-Refused
-returns-in-Refused c = seat_refused _ (sym c.any_held.ensures ∙ c.if-any_held.false) _ _ _ _ c.at-count.ensures c.fresh.ensures c.free.ensures c.at.ensures c.requires c.if-at-count.false _ _ _ _ c.flush.ensures _ c.in-Refused.is
+pub returns-in_err-flush : goal.returns-in_err-flush
+returns-in_err-flush c =
+    rw (handed_up _ _ c.from_residual.ensures.1 refl)
+    (seat_refused _ (sym c.any_held.ensures ∙ c.if-any_held.false) _ _ _ _ c.at-count.ensures c.fresh.ensures c.free.ensures c.at.ensures c.requires c.if-at-count.false _ c.in_err-flush.ensures)
 
-pub returns-in-Granted : goal.returns-in-Granted
-returns-in-Granted c =
-    seat_done _ (sym c.any_held.ensures ∙ c.if-any_held.false) _ _ _ _ c.at-count.ensures c.fresh.ensures c.free.ensures c.at.ensures c.requires c.if-at-count.false _ _ _ _ c.flush.ensures _ c.in-Granted.is _ _ c.list_reserved.ensures c.put.ensures
+pub returns : goal.returns
+returns c =
+    seat_done _ (sym c.any_held.ensures ∙ c.if-any_held.false) _ _ _ _ c.at-count.ensures c.fresh.ensures c.free.ensures c.at.ensures c.requires c.if-at-count.false _ c.in_ok-flush.ensures _ _ c.list_reserved.ensures c.put.ensures

@@ -1,13 +1,8 @@
--- `store_flush::listing::list_new` meets its contract. The loop's invariant: what is left to write, of a table of the same length.
-use Prim.Native.Nat.{◌≤◌, ◌-◌}
-use mathlib.Core.Path.{◌≡◌}
+-- `store_flush::listing::list_new` meets its contract. The loop's invariant: what is left to write.
 use lib.ListN.{length}
 use Rattle.id_tables.specs.Runs.{up_from}
 use Rattle.id_batches.proofs.Setting.{Rest}
 use Rattle.store_flush.proofs.listing.list_new.Given as goal
 
 abbrev pub invariant-loop-i : goal.invariant-loop-i
-invariant-loop-i l = (l.i ≤ l.count) × (Rest l.initial.numbers l.numbers (up_from l.place (length (up_from l.from l.count))) (up_from l.from l.count) l.i) × (length l.numbers ≡ length l.initial.numbers)
-
-abbrev pub decreases-loop-i : goal.decreases-loop-i
-decreases-loop-i l = l.count - l.i
+invariant-loop-i l = Rest l.initial.numbers l.numbers (up_from l.place (length (up_from l.from l.count))) (up_from l.from l.count) l.i

@@ -1,15 +1,7 @@
-use mathlib.Core.Path.{refl}
-use borrow.Author.Rules.{rules}
-use Rattle.id_batches.proofs.Setting.{rest_all}
-use Rattle.store_flush.proofs.Runs.{list_next, list_end}
+-- `store_flush::listing::list_old` meets its contract: a part that is copied is that run of entries set.
+use native.Mathlib.Omega.{arith}
+use Rattle.store_flush.proofs.Runs.{copied}
 use Rattle.store_flush.proofs.listing.list_old.Goals as goal
 
-pub loop-i-init : goal.loop-i-init
-loop-i-init c = (search rules, rest_all _ _ _, refl)
-
-pub loop-i-preserved : goal.loop-i-preserved
-loop-i-preserved c =
-    (search rules, list_next _ c.loop-i.invariant.1 _ _ c.loop-i-test.true refl refl, search rules)
-
 pub returns : goal.returns
-returns c = list_end _ c.loop-i.invariant.1 c.loop-i-test.false
+returns c = copied c.args.numbers.now c.args.old.now _ c.args.place _ c.copy_from_slice.ensures.after (omega arith) c.requires

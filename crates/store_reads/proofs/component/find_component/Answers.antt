@@ -1,24 +1,17 @@
--- `store_reads::find_component` meets its contract: each case of the place by itself.
-use mathlib.Core.Path.{refl}
-use Rattle.store_reads.specs.Steps.{component_for}
-use Rattle.store_reads.proofs.Locating.{for_placed, in_placed}
+-- `store_reads::find_component` meets its contract: the column of the type where the entity has a row.
+use mathlib.Core.Path.{sym, ap, ◌∙◌}
+use Rattle.refusal.specs.Laws.{handed_up}
+use Rattle.store_reads.specs.Steps.{PlacedIn, component_for}
+use Rattle.store_reads.proofs.Locating.{no_row}
 use Rattle.store_reads.proofs.component.find_component.Goals as goal
 
-pub find_cell-requires : goal.find_cell-requires
-find_cell-requires c = record { kept = c.requires.kept; span_value = in_placed _ _ _ _ c.in-At.is c.requires.placed_in }
+pub returns-in_err-place : goal.returns-in_err-place
+returns-in_err-place c = handed_up _ _ c.from_residual.ensures.1 (no_row _ _ _ _ c.in_err-place.ensures.value c.in_err-place.ensures.ok_part)
 
-pub returns-in-At : goal.returns-in-At
-unfolding component_for
-returns-in-At c = for_placed _ _ _ _ c.in-At.is c.find_cell.ensures
+pub find_cell-requires-clause-row_in : goal.find_cell-requires-clause-row_in
+unfolding PlacedIn
+find_cell-requires-clause-row_in c = rw c.in_ok-place.ensures.ok_part at c.requires.placed_in
 
-pub returns-in-Reserved : goal.returns-in-Reserved
+pub returns : goal.returns
 unfolding component_for
-returns-in-Reserved c = for_placed _ _ _ _ c.in-Reserved.is refl
-
-pub returns-in-Damaged : goal.returns-in-Damaged
-unfolding component_for
-returns-in-Damaged c = for_placed _ _ _ _ c.in-Damaged.is refl
-
-pub returns-in-Absent : goal.returns-in-Absent
-unfolding component_for
-returns-in-Absent c = for_placed _ _ _ _ c.in-Absent.is refl
+returns c = c.find_cell.ensures ∙ sym (ap (component_for _ _) c.in_ok-place.ensures.ok_part)

@@ -1,0 +1,28 @@
+-- `columns::move_tested` meets its contract: the tables' tests, the output's, the counts' and the row's, in this order.
+use Rattle.refusal.specs.Laws.{handed_up}
+use Rattle.refusal.specs.Chain.{stop, go}
+use Rattle.column_entry.proofs.Keeping.{tabled}
+use Rattle.columns.specs.Calls.{move_rules}
+use Rattle.columns.proofs.removing.move_tested.Goals as goal
+
+pub returns-in_err-tables_tested : goal.returns-in_err-tables_tested
+unfolding move_rules
+returns-in_err-tables_tested c = handed_up _ _ c.from_residual.ensures.1 (stop _ _ (stop _ _ (stop _ _ c.in_err-tables_tested.ensures)))
+
+pub width_tested-requires : goal.width_tested-requires
+width_tested-requires c = (tabled _ _ c.in_ok-tables_tested.ensures).kept
+
+pub returns-in_err-width_tested : goal.returns-in_err-width_tested
+unfolding move_rules
+returns-in_err-width_tested c =
+    handed_up _ _ c.from_residual-in_err-width_tested.ensures.1 (stop _ _ (stop _ _ (go _ _ c.in_ok-tables_tested.ensures c.in_err-width_tested.ensures)))
+
+pub returns-in_err-counts_tested : goal.returns-in_err-counts_tested
+unfolding move_rules
+returns-in_err-counts_tested c =
+    handed_up _ _ c.from_residual-in_err-counts_tested.ensures.1
+    (stop _ _ (go _ _ (go _ _ c.in_ok-tables_tested.ensures c.in_ok-width_tested.ensures) c.in_err-counts_tested.ensures))
+
+pub returns : goal.returns
+unfolding move_rules
+returns c = go _ _ (go _ _ (go _ _ c.in_ok-tables_tested.ensures c.in_ok-width_tested.ensures) c.in_ok-counts_tested.ensures) c.row_tested.ensures

@@ -1,6 +1,0 @@
--- `exports_ids::verdict_word_shared_at` meets its contract.
-use Rattle.crossing.proofs.Telling.{crossed}
-use Rattle.exports_ids.proofs.words.verdict_word_shared_at.Goals as goal
-
-pub returns : goal.returns
-returns c = crossed c.shared_at-answer.ensures c.borrowed.ensures

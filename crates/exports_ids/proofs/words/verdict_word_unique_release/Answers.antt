@@ -1,6 +1,0 @@
--- `exports_ids::verdict_word_unique_release` meets its contract.
-use Rattle.exports_ids.proofs.Laws.{repassed}
-use Rattle.exports_ids.proofs.words.verdict_word_unique_release.Goals as goal
-
-pub returns : goal.returns
-returns c = repassed c.unique_release-answer.ensures c.left.ensures
