@@ -3,7 +3,7 @@ ghost use Rattle.std.specs.Prelude.{◌≡◌, ◌<◌, length, get_or};
 ghost use Rattle.refusal.specs.Table.{answer_of};
 ghost use Rattle.decl.specs.Decl.{decl_in, types_of};
 ghost use Rattle.decl.specs.Lookup.{column_of};
-ghost use Rattle.row_step.specs.Tables.{rows_in};
+ghost use Rattle.row_step.specs.Tables.{rows_in, tables_of};
 ghost use Rattle.column_entry.specs.Kept.{Kept};
 ghost use Rattle.columns.specs.Calls.{cell_for, got_in, part_for};
 ghost use Rattle.columns.specs.Find.{cell_in};
@@ -59,18 +59,26 @@ pub fn get(
     cell_of(declaration, archetype, row, kind)
 }
 
-// A component's bytes; none on a refusal.
+// A component's bytes; none on a refusal. The tables stay slices: what is answered holds the bytes alone, where a part of a
+// view would hold the other tables too.
 pub fn get_bytes<'a>(
     declaration: &Declaration<'_>,
-    rows: &RowTables<'a>,
+    numbers: &[u32],
+    counts: &[u32],
+    bytes: &'a [u8],
     archetype: usize,
     row: Row,
     kind: u32,
 ) -> &'a [u8]
-    ensures { result.now ≡ part_for (got_in (decl_in declaration.now) (rows_in rows.now) archetype row.0 kind) rows.now.bytes.now }
+    ensures { result.now ≡ part_for (got_in (decl_in declaration.now) (tables_of numbers.now counts.now bytes.now) archetype row.0 kind) bytes.now }
 {
-    let Ok((start, len)) = get(declaration, rows, archetype, row, kind) else {
-        return &rows.bytes[..0];
+    let rows = RowTables {
+        numbers,
+        counts,
+        bytes,
     };
-    cells::part(rows.bytes, start, len)
+    let Ok((start, len)) = get(declaration, &rows, archetype, row, kind) else {
+        return &bytes[..0];
+    };
+    cells::part(bytes, start, len)
 }

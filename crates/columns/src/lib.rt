@@ -1,5 +1,5 @@
 // Columns over a declaration: rows allocated, removed and moved out, components put and found, on any input.
-// The C interface keeps the tables that a call writes as slices side by side: it lends some of them const, so no struct of `&mut` holds them.
+// The tables that a call writes stay slices: the calls write twelve sets of them, and each clause on a struct of `&mut` would have to say that its references are the same as before.
 #![tactic(auto)]
 
 mod appending;

@@ -2,7 +2,7 @@
 ghost use Rattle.std.specs.Prelude.{◌≡◌};
 ghost use Rattle.refusal.specs.Table.{answer_of, passing};
 ghost use Rattle.decl.specs.Decl.{decl_in};
-ghost use Rattle.row_step.specs.Tables.{rows_in};
+ghost use Rattle.row_step.specs.Tables.{rows_in, tables_of};
 ghost use Rattle.columns.specs.Calls.{ids_rules, ids_in, part_for};
 
 use decl::Declaration;
@@ -39,16 +39,23 @@ pub fn ids(
     ))
 }
 
-// An archetype's row numbers; none on a refusal.
+// An archetype's row numbers; none on a refusal. The tables stay slices, as in `get_bytes`.
 pub fn ids_part<'a>(
     declaration: &Declaration<'_>,
-    rows: &RowTables<'a>,
+    numbers: &'a [u32],
+    counts: &[u32],
+    bytes: &[u8],
     archetype: usize,
 ) -> &'a [u32]
-    ensures { result.now ≡ part_for (ids_in (decl_in declaration.now) (rows_in rows.now) archetype) rows.now.numbers.now }
+    ensures { result.now ≡ part_for (ids_in (decl_in declaration.now) (tables_of numbers.now counts.now bytes.now) archetype) numbers.now }
 {
-    let Ok((start, count)) = ids(declaration, rows, archetype) else {
-        return &rows.numbers[..0];
+    let rows = RowTables {
+        numbers,
+        counts,
+        bytes,
     };
-    &rows.numbers[start..start + count]
+    let Ok((start, count)) = ids(declaration, &rows, archetype) else {
+        return &numbers[..0];
+    };
+    &numbers[start..start + count]
 }

@@ -41,7 +41,18 @@ fn value(bytes: &[u8]) -> u64 {
 fn reading(cache: &Cache, bits: u64, kind: u32) -> Result<u64, Refusal> {
     let tables = cache.tables();
     store_reads::read(&tables, bits, kind)?;
-    Ok(value(store_reads::read_bytes(&tables, bits, kind)))
+    let rows = tables.rows;
+    let bytes = store_reads::read_bytes(
+        &tables.declaration,
+        &tables.ids,
+        rows.numbers,
+        rows.counts,
+        rows.bytes,
+        tables.words,
+        bits,
+        kind,
+    );
+    Ok(value(bytes))
 }
 
 // The verdict in a word, or the refusal of the read.

@@ -48,7 +48,7 @@ pub fn verdict_ids_alloc(
         Crossed number_four (allocating lent (place_of archetype index)) lent result out.new left }
 {
     let place = Place {
-        archetype: archetype,
+        archetype,
         index: Row(index),
     };
     let mut left = head_of(head);
@@ -74,7 +74,7 @@ pub fn verdict_ids_alloc_at(
         Crossed old_place_four (allocating_at lent bits (place_of archetype index)) lent result out.new left }
 {
     let place = Place {
-        archetype: archetype,
+        archetype,
         index: Row(index),
     };
     let mut left = head_of(head);
@@ -161,7 +161,7 @@ pub fn verdict_ids_set_place(
         Passed (setting_place lent bits (place_of archetype index)) lent result left }
 {
     let place = Place {
-        archetype: archetype,
+        archetype,
         index: Row(index),
     };
     let answer = id_tables::set_place(

@@ -61,6 +61,11 @@ pub new_bad : (n g : ℕ) (r : Result Handle Refusal) (x : Refusal) → handle_o
 unfolding new_handle
 new_bad n g r x a p = (stopped _ _ _ _ (sym (ap handle_of p) ∙ a)).0
 
+-- a generation that is not 0 makes a handle
+pub new_made : (n g : ℕ) (r : Result Handle Refusal) → handle_of r ≡ new_handle n g → (g ≡ 0 → ⊥) → handle_of r ≡ granted (bits_of g n)
+unfolding new_handle ◌or_else◌
+new_made n g r a ne = a ∙ simp (ne_eqb g 0 ne)
+
 -- no public function makes a handle of generation 0
 pub from_bits_nonzero : (b : ℕ) (h : Handle) → handle_of (Ok h) ≡ from_bits b → generation_in h.0 ≡ 0 → ⊥
 from_bits_nonzero b h a z = let g = good b (Ok h) h a refl in eqb-false (generation_in b) 0 g.1 (ap generation_in (sym g.0) ∙ z)

@@ -58,7 +58,7 @@ fn reserved_placed(
     Ok(())
 }
 
-// hecs's `flush`, with an archetype and a first row in place of its closure. The tables are lent to be written, and not in a struct: C lends some of them to be read only.
+// hecs's `flush`, with an archetype and a first row in place of its closure. The tables stay slices: the calls write twelve sets of them, and each clause on a struct of `&mut` would have to say that its references are the same as before.
 pub fn flush(
     head: &mut Head,
     generations: &mut [u32],

@@ -29,23 +29,11 @@ impl AllocManyState {
                 return Err(Refusal::BadLength);
             };
             let position = self.position + 1;
-            return Ok(Some((
-                Number(*number),
-                AllocManyState {
-                    position: position,
-                    ..self
-                },
-            )));
+            return Ok(Some((Number(*number), AllocManyState { position, ..self })));
         }
         if self.number < self.end {
             let number = self.number + 1;
-            return Ok(Some((
-                Number(self.number),
-                AllocManyState {
-                    number: number,
-                    ..self
-                },
-            )));
+            return Ok(Some((Number(self.number), AllocManyState { number, ..self })));
         }
         Ok(None)
     }
@@ -150,7 +138,7 @@ fn many_placed(
     }
 }
 
-// hecs's `alloc_many` with its `finish_alloc_many`. The tables are lent to be written, and not in a struct: C lends some of them to be read only.
+// hecs's `alloc_many` with its `finish_alloc_many`. The tables stay slices: the calls write twelve sets of them, and each clause on a struct of `&mut` would have to say that its references are the same as before.
 pub fn alloc_many(
     head: &mut Head,
     generations: &mut [u32],

@@ -1,12 +1,12 @@
 // The reader of a reservation. Each function leaves the work to a function on the slice and the positions.
 ghost use Rattle.std.specs.Prelude.{◌≡◌};
 ghost use Rattle.refusal.specs.Table.{Did, answer_by};
-ghost use Rattle.id_tables.specs.Ids.{ids_in};
+ghost use Rattle.id_tables.specs.Ids.{ids_of};
 ghost use Rattle.id_readers.specs.Reader.{reader_of, reserving_reader, stepping, handed_of, left_in};
 
 use crate::spans::{reserve_len, reserve_next, reserve_span};
 use handle::Handle;
-use id_tables::IdTables;
+use id_tables::{Head, IdTables};
 use refusal::Refusal;
 
 // Hands a reservation's handles out: the recycled numbers from `position` on, then the new ones from `number` to `end`.
@@ -18,18 +18,31 @@ pub struct ReserveEntitiesIterator<'a> {
     pub end: u32,
 }
 
-// hecs's `reserve_entities`: reserves n, and gives the reader of their handles.
+// hecs's `reserve_entities`: reserves n, and gives the reader of their handles. The tables stay slices: the reader holds the
+// pending list alone, where a part of a view would hold the other tables too.
 pub fn reserve_entities<'a>(
-    ids: &mut IdTables<'a>,
+    head: &mut Head,
+    generations: &[u32],
+    archetypes: &[u32],
+    indices: &[u32],
+    pending: &'a [u32],
     n: usize,
 ) -> Result<ReserveEntitiesIterator<'a>, Refusal>
-    ensures { let lent = ids_in ids.old in
-        let left = ids_in ids.new in
+    ensures { let lent = ids_of head.old generations.now archetypes.now indices.now pending.now in
+        let left = ids_of head.new generations.now archetypes.now indices.now pending.now in
         Did (reserving_reader lent n) lent (answer_by reader_of result) left }
 {
-    let span = reserve_span(ids, n)?;
+    let mut ids = IdTables {
+        head: *head,
+        generations,
+        archetypes,
+        indices,
+        pending,
+    };
+    let span = reserve_span(&mut ids, n)?;
+    *head = ids.head;
     Ok(ReserveEntitiesIterator {
-        recycled: &ids.pending[span.from..span.to],
+        recycled: &pending[span.from..span.to],
         position: 0,
         number: span.number,
         end: span.end,

@@ -35,7 +35,7 @@ fn span_reserved(ids: &mut IdTables<'_>, n: usize) -> Result<Span, Refusal>
     }
     ids.head = ids.head.fallen(n as u32);
     Ok(Span {
-        from: from,
+        from,
         to: free,
         number: next as u32,
         end: (next + n.saturating_sub(free)) as u32,

@@ -1,13 +1,13 @@
 -- What the rules of contains, get, resolve, len and clear say, for callers that do not open them.
 -- Assumes nothing.
 use Prim.{tt}
-use Rattle.std.proofs.Common.{◌≡◌, ℕ, zero, suc, ◌+◌, ◌<◌, ◌≤◌, Bool, true, false, cond, ◌&&◌, ◌||◌, eqb, ltb, leb, ◌⊎◌, List, [], ◌∷◌, ◌++◌, length, get_or, sym, refl, ap, ◌∙◌, inl, inr, ⊎_elim, true≢false, le_of_suc-le-suc, not-suc-le-zero, arith, ltb-true, le-ltb, lt-ltb, eq-eqb, ne_eqb, eqb-true, le-leb, leb-false, leb-true}
+use Rattle.std.proofs.Common.{not, ◌≡◌, ℕ, zero, suc, ◌+◌, ◌<◌, ◌≤◌, Bool, true, false, cond, ◌&&◌, ◌||◌, eqb, ltb, leb, ◌⊎◌, List, [], ◌∷◌, ◌++◌, length, get_or, sym, refl, ap, ◌∙◌, inl, inr, ⊎_elim, true≢false, le_of_suc-le-suc, not-suc-le-zero, arith, ltb-true, le-ltb, lt-ltb, eq-eqb, ne_eqb, eqb-true, le-leb, leb-false, leb-true}
 use mathlib.Core.Bool.{and-false, or-true}
 use mathlib.Core.Logic.{⊎_map}
 use borrow.Author.Tests.{lt-leb}
 use Rattle.refusal.specs.Table.{Rule, Answer, granted, refused, ◌when◌, ◌or_else◌, passing}
 use Rattle.refusal.specs.Truth.{and_parts}
-use Rattle.refusal.specs.Laws.{passed_all, past, go, both, none_holds, value_of_lem, not_refused}
+use Rattle.refusal.specs.Laws.{passed_all, past, go, both, none_holds, value_of_lem, not_refused, stopped}
 use Rattle.handle.specs.Bits.{MAX, bits_of, place_of, generation_in, number_in}
 use Rattle.handle.specs.OnBits.{on_bits, on_rest, on_granted}
 use Rattle.handle.specs.declared.Place.{Place}
@@ -111,6 +111,10 @@ module _ (s : Ids) (g n : ℕ) where
   pub got_none : live s g n ≡ false → reserved_new s.head g n ≡ false → place_got s g n ≡ refused 2
   unfolding place_got ◌or_else◌
   got_none l r = simp (l, r)
+
+  pub got_refused : {m : ℕ} → refused m ≡ place_got s g n → (m ≡ 2) × (not (live s g n || reserved_new s.head g n) ≡ true)
+  unfolding place_got
+  got_refused e = let x = stopped _ _ _ _ e in (x.1, x.0)
 
   -- a recycled number that is reserved and has no place: contained, and refused by get
   pub got_old : ReservedOld s g n → index_at s n ≡ MAX → (is_contained s g n ≡ true) × (place_got s g n ≡ refused 2)

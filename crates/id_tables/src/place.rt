@@ -40,7 +40,7 @@ fn place_set(
     Ok(())
 }
 
-// hecs's `get_mut`: sets the place of a live entity. The tables are lent one by one, for C lends those that are only read as const, and no struct of `&mut` could hold them.
+// hecs's `get_mut`: sets the place of a live entity. The tables stay slices: the calls write twelve sets of them, and each clause on a struct of `&mut` would have to say that its references are the same as before.
 pub fn set_place(
     head: Head,
     generations: &[u32],

@@ -5,13 +5,13 @@ use mathlib.Core.Path.{◌≡◌, sym, ◌∙◌}
 use mathlib.Core.List.{List}
 use native.Mathlib.Omega.{arith}
 use native.Mathlib.Nat.{pos_of_ne-zero}
-use borrow.Author.Tests.{ne_eqb}
 use lib.ListN.{get_or}
 use Rattle.std.specs.Prelude.{Result}
-use Rattle.refusal.specs.Table.{Answer, granted, ◌or_else◌, Did}
+use Rattle.refusal.specs.Table.{Answer, granted, Did}
 use Rattle.refusal.specs.Laws.{grant}
 use Rattle.refusal.specs.declared.Refusal.{Refusal}
 use Rattle.handle.specs.Bits.{bits_of, handle_of, new_handle}
+use Rattle.handle.specs.RoundTrip.{new_made}
 use Rattle.handle.specs.declared.Handle.{Handle}
 use Rattle.id_tables.proofs.Meaning.{Undamaged}
 
@@ -20,8 +20,7 @@ given_did w e = rw w (grant e)
 
 -- a generation that is not 0 makes a handle
 pub made : (r : Result Handle Refusal) (n g : ℕ) → handle_of r ≡ new_handle n g → 0 < g → handle_of r ≡ granted (bits_of g n)
-unfolding new_handle ◌or_else◌
-made r n g e h = e ∙ simp (ne_eqb g 0 (λ z. omega arith))
+made r n g e h = new_made n g r e (λ z. omega arith)
 
 -- as that of an undamaged entry is
 pub makes_handle : {used : ℕ} {generations indices : List ℕ} {n m k : ℕ} → Undamaged used generations indices n → m ≡ n → k ≡ get_or generations m 0 → 0 < k

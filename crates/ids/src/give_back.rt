@@ -63,7 +63,7 @@ fn freed(
     Ok(old)
 }
 
-// hecs's `free`. The tables stay slices, as in `alloc`, to which C lends one of them const: a struct of `&mut` would serve two calls alone.
+// hecs's `free`. The tables stay slices: the calls write twelve sets of them, and each clause on a struct of `&mut` would have to say that its references are the same as before.
 pub fn free(
     head: &mut Head,
     generations: &mut [u32],

@@ -197,7 +197,7 @@ fn alloced_at(
     }
 }
 
-// hecs's `alloc_at`, with the place that the number gets. The tables stay slices, as in `alloc`, to which C lends one of them const: a struct of `&mut` would serve two calls alone.
+// hecs's `alloc_at`, with the place that the number gets. The tables stay slices: the calls write twelve sets of them, and each clause on a struct of `&mut` would have to say that its references are the same as before.
 pub fn alloc_at(
     head: &mut Head,
     generations: &mut [u32],

@@ -79,7 +79,7 @@ fn alloc_last(
     Handle::new(number, at(generations, number.0 as usize))
 }
 
-// hecs's `alloc`, with the place that the number gets. The tables stay slices: C lends `pending` const and the others to be written, so no one struct can hold them.
+// hecs's `alloc`, with the place that the number gets. The tables stay slices: the calls write twelve sets of them, and each clause on a struct of `&mut` would have to say that its references are the same as before.
 pub fn alloc(
     head: &mut Head,
     generations: &mut [u32],

@@ -95,6 +95,10 @@ stops [] v b e = absurd (not_refused (sym e))
 stops (k when true ∷ rest) v b e = cc
 stops (k when false ∷ rest) v b e = stops rest v b e
 
+-- what a call said, once its result has been taken apart
+pub told : {A : Type 0} {a : Answer A} (r t : Result A Refusal) → answer_of r ≡ a → r ≡ t → answer_of t ≡ a
+told r t e p = sym (ap answer_of p) ∙ e
+
 module _ {A S : Type 0} {rule : Answer (A × S)} {lent : S} where
   pub grant : {v : A} {s : S} → rule ≡ granted (v, s) → Did rule lent (granted v) s
   grant e = record { answer = ap value_of (sym e); leaves = ap (λ (r : Answer (A × S)). left_of r lent) (sym e) }

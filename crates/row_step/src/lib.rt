@@ -56,7 +56,7 @@ pub fn set_number(numbers: &mut [u32], first: usize, row: Row, number: Number)
 }
 
 // The last row's number and cells, of columns of these sizes, copied over a row. Answers the number that was moved.
-// The tables are slices side by side, as the C interface lends them to the calls above.
+// The tables stay slices: the calls write twelve sets of them, and each clause on a struct of `&mut` would have to say that its references are the same as before.
 pub fn remove(
     numbers: &mut [u32],
     counts: &mut [u32],

@@ -97,7 +97,7 @@ fn leave(
     ids::free(head, generations, archetypes, indices, pending, bits)
 }
 
-// Ends an entity. The tables stay slices, as in the calls to which C lends some of them const: a struct of `&mut` would serve this call alone.
+// Ends an entity. The tables stay slices: the calls write twelve sets of them, and each clause on a struct of `&mut` would have to say that its references are the same as before.
 pub fn despawn(
     head: &mut Head,
     declaration: &Declaration<'_>,

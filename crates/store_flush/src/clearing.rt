@@ -13,7 +13,7 @@ use refusal::Refusal;
 use row_step::RowTables;
 use store_tables::StoreTables;
 
-// No entity is left: nothing is used, pending, reserved or live, and no archetype has a row. The tables stay slices: C lends the row counts to be written and the others const, so no one struct can hold them.
+// No entity is left: nothing is used, pending, reserved or live, and no archetype has a row. The tables stay slices: the calls write twelve sets of them, and each clause on a struct of `&mut` would have to say that its references are the same as before.
 pub fn clear(
     head: &mut Head,
     declaration: &Declaration<'_>,

@@ -57,7 +57,7 @@ fn seat_reserved(
     Ok(())
 }
 
-// The reserved numbers become live, each in a row of archetype 0, which has no columns. The tables stay slices: C lends some const and others to be written, so no one struct can hold them.
+// The reserved numbers become live, each in a row of archetype 0, which has no columns. The tables stay slices: the calls write twelve sets of them, and each clause on a struct of `&mut` would have to say that its references are the same as before.
 pub fn flush(
     head: &mut Head,
     declaration: &Declaration<'_>,

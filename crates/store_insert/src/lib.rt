@@ -70,7 +70,7 @@ fn way_for(
 }
 
 // The entity's row and how the component comes in, or why the insert is refused. The views are lent apart, and the store is
-// made of them here: where tables are written afterwards, the borrow checker covers no struct of them all.
+// made of them here: tried with one struct of them all, the check has no proof: it meets references at two lifetimes.
 fn row_for(
     declaration: &Declaration<'_>,
     ids: &IdTables<'_>,
@@ -184,8 +184,7 @@ fn take_in(
     );
 }
 
-// Gives an entity a component of a type. The tables stay slices: C lends `pending` const and others to be written, so no one
-// struct can hold them.
+// Gives an entity a component of a type. The tables stay slices: the calls write twelve sets of them, and each clause on a struct of `&mut` would have to say that its references are the same as before.
 pub fn insert(
     head: Head,
     declaration: &Declaration<'_>,

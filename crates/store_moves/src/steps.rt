@@ -85,8 +85,9 @@ pub fn gather(
 }
 
 // Moves the row at a place, with its number and these bytes, to the first unused row of the target, and writes the places of
-// its number and of the one that falls into the hole. `here` and `there` are the archetypes' parts of the tables, which are
-// slices side by side, as the C interface lends them to the calls above.
+// its number and of the one that falls into the hole. `here` and `there` are the archetypes' parts of the tables.
+// These stay slices: the calls write twelve sets of them, and each clause on a struct of `&mut` would have to say that its
+// references are the same as before.
 pub fn move_row(
     declaration: &Declaration<'_>,
     archetypes: &mut [u32],

@@ -23,7 +23,7 @@ use Rattle.cells.proofs.Rows.{past_line}
 use Rattle.column_entry.proofs.Widths.{firsts}
 use Rattle.column_entry.specs.Kept.{Kept}
 use Rattle.store_steps.specs.Parts.{part_by}
-use Rattle.store_steps.proofs.Laws.{sizes_by}
+use Rattle.store_steps.proofs.Laws.{part_cut, sizes_by}
 use Rattle.store_reads.specs.Component.{column_cell}
 
 -- a type that an archetype has stands at one of its columns
@@ -87,8 +87,7 @@ module _ (d : Decl) (a : ℕ) (k : Kept d) (s : Span) (span : s ≡ span_of d a)
 -- The same in the parts that are cut by the span.
 module _ (d : Decl) (a : ℕ) (k : Kept d) (s : Span) (span : s ≡ span_of d a) (t : ℕ) (c : Option ℕ) (found : c ≡ searched (part_by d.types s) t) where
   whole : (xs : List ℕ) → part_by xs s ≡ take (s.column + s.columns - s.column) (drop s.column xs)
-  unfolding part_by
-  whole xs = let e : s.column + s.columns - s.column ≡ s.columns = omega arith in rw e
+  whole xs = let e : s.column + s.columns - s.column ≡ s.columns = omega arith in rw e (part_cut xs s)
 
   seen : c ≡ searched (take (s.column + s.columns - s.column) (drop s.column d.types)) t
   seen = found ∙ ap (λ (xs : List ℕ). searched xs t) (whole d.types)

@@ -10,12 +10,12 @@ use mathlib.Core.Logic.{⊎_elim}
 use mathlib.Core.Option as math
 use borrow.Author.Tests.{not-false}
 use Rattle.refusal.specs.Table.{◌when◌, Answer, granted, refused, ◌or_else◌}
-use Rattle.refusal.specs.Laws.{not_refused, passed_all, none_holds, stops}
+use Rattle.refusal.specs.Laws.{not_refused, passed_all, none_holds}
 use Rattle.handle.specs.Bits.{MAX}
 use Rattle.handle.specs.declared.Place.{Place}
 use Rattle.id_tables.specs.Ids.{Ids, live, place_at}
 use Rattle.id_tables.specs.Lookup.{reserved_new, place_got}
-use Rattle.id_tables.proofs.Laws.{got_parts, new_not_live}
+use Rattle.id_tables.proofs.Laws.{got_parts, got_refused, new_not_live}
 use Rattle.id_tables.proofs.Meaning.{lives}
 use Rattle.decl.specs.Decl.{Decl, types_of}
 use Rattle.decl.specs.Lookup.{column_of}
@@ -37,8 +37,8 @@ use Rattle.store_reads.specs.Steps.{in_place, place_seen, RowIn, PlacedIn, compo
 -- what the tables say of a handle, after what get said of it
 module _ (d : Decl) (i : Ids) (numbers counts : List ℕ) (g n : ℕ) where
   pub seen_absent : {m : ℕ} → refused m ≡ place_got i g n → refused m ≡ place_seen d i numbers counts g n
-  unfolding place_got place_seen
-  seen_absent e = sym (stops (2 when not (live i g n || reserved_new i.head g n) ∷ []) _ _ e)
+  unfolding place_seen ◌or_else◌
+  seen_absent e = let x = got_refused i g n e in rw (x.0, x.1)
 
   module _ (p : Place) (e : granted p ≡ place_got i g n) where
     -- a place with no row is that of a reserved new number

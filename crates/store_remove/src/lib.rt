@@ -65,7 +65,7 @@ fn way_for(
 }
 
 // The entity's row and how the component goes, or why the remove is refused. The views are lent apart, and the store is made
-// of them here: where tables are written afterwards, the borrow checker covers no struct of them all.
+// of them here: tried with one struct of them all, the check has no proof: it meets references at two lifetimes.
 fn row_for(
     declaration: &Declaration<'_>,
     ids: &IdTables<'_>,
@@ -143,8 +143,7 @@ fn take_out(
     );
 }
 
-// Takes a component of a type from an entity. The tables stay slices: C lends `pending` const and others to be written, so no
-// one struct can hold them.
+// Takes a component of a type from an entity. The tables stay slices: the calls write twelve sets of them, and each clause on a struct of `&mut` would have to say that its references are the same as before.
 pub fn remove(
     head: Head,
     declaration: &Declaration<'_>,

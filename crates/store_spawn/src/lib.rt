@@ -132,7 +132,7 @@ fn take_row(
     Ok(handle)
 }
 
-// Makes an entity of these components. The tables stay slices: C lends `pending` const and others to be written, so no one struct can hold them.
+// Makes an entity of these components. The tables stay slices: the calls write twelve sets of them, and each clause on a struct of `&mut` would have to say that its references are the same as before.
 pub fn spawn(
     head: &mut Head,
     declaration: &Declaration<'_>,

@@ -270,7 +270,7 @@ fn settle(
 }
 
 // Makes an entity of this handle and these components. A live number's old row leaves first.
-// The tables stay slices, as in the calls to which C lends some of them const: a struct of `&mut` would serve this call alone.
+// The tables stay slices: the calls write twelve sets of them, and each clause on a struct of `&mut` would have to say that its references are the same as before.
 pub fn spawn_at(
     head: &mut Head,
     declaration: &Declaration<'_>,

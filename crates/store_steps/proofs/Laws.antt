@@ -6,7 +6,7 @@ use mathlib.Core.Path.{◌≡◌, refl}
 use mathlib.Core.Bool.{true, false}
 use mathlib.Core.List.{List}
 use lib.Dec.{eqb}
-use lib.ListN.{set}
+use lib.ListN.{set, take, drop}
 use borrow.Author.Tests.{lt-ltb}
 use Rattle.decl.specs.Decl.{Decl, width_of, rows_of, first_row, first_column, types_of, sizes_of}
 use Rattle.decl.specs.Places.{base_of, span_of}
@@ -17,6 +17,11 @@ use Rattle.row_step.specs.Tables.{Rows, block_of, tables_of, number_in, count_of
 use Rattle.row_step.proofs.Held.{row_removed_lem, moved_none, moved_some}
 use Rattle.store_steps.specs.Parts.{block_by, part_by}
 use Rattle.store_steps.specs.Seats.{Seats, seats_of, vacated_seats, filled, seated_rows}
+
+-- an archetype's part of a table of columns, as a cut
+pub part_cut : (xs : List ℕ) (span : Span) → part_by xs span ≡ take span.columns (drop span.column xs)
+unfolding part_by
+part_cut xs span = refl
 
 module _ (d : Decl) (a : ℕ) (span : Span) (p : span ≡ span_of d a) where
   pub block_by_lem : block_by d.rows span a ≡ block_of (first_row d a) (rows_of d a) (base_of d a)

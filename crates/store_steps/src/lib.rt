@@ -32,7 +32,7 @@ pub fn part_of(table: &[u32], span: Span) -> &[u32]
 
 // Removes the row at a place of the archetype that has this part of the tables. Whenever the last row falls into the
 // hole, its number's place is written here.
-// The tables stay slices: C lends the declaration const and these to be written, and no view holds both.
+// The tables stay slices: the calls write twelve sets of them, and each clause on a struct of `&mut` would have to say that its references are the same as before.
 pub fn vacate(
     declaration: &Declaration<'_>,
     archetypes: &mut [u32],

@@ -11,17 +11,17 @@ returns-in_default c = ids_empty _ _ _ c.in_default.ensures
 -- the part is within the table
 pub overflow_add-result : goal.overflow_add-result
 overflow_add-result c =
-    let inside : c.in-Ok.start + c.in-Ok.count ≤ length c.args.rows.now.numbers.now = ids_fit _ _ _ _ _ c.in-Ok.ensures in
+    let inside : c.in-Ok.start + c.in-Ok.count ≤ length c.args.numbers.now = ids_fit _ _ _ _ _ c.in-Ok.ensures in
     omega (arith, inside)
 
-pub offset_bounds-rows-start : goal.offset_bounds-rows-start
-offset_bounds-rows-start c =
-    let inside : c.in-Ok.start + c.in-Ok.count ≤ length c.args.rows.now.numbers.now = ids_fit _ _ _ _ _ c.in-Ok.ensures in
+pub offset_bounds-numbers-start : goal.offset_bounds-numbers-start
+offset_bounds-numbers-start c =
+    let inside : c.in-Ok.start + c.in-Ok.count ≤ length c.args.numbers.now = ids_fit _ _ _ _ _ c.in-Ok.ensures in
     omega (arith, inside)
 
 pub slice_bounds-result-end-2 : goal.slice_bounds-result-end-2
 slice_bounds-result-end-2 c =
-    let inside : c.in-Ok.start + c.in-Ok.count ≤ length c.args.rows.now.numbers.now = ids_fit _ _ _ _ _ c.in-Ok.ensures in
+    let inside : c.in-Ok.start + c.in-Ok.count ≤ length c.args.numbers.now = ids_fit _ _ _ _ _ c.in-Ok.ensures in
     omega (arith, inside)
 
 pub returns : goal.returns
