@@ -10,7 +10,6 @@ use borrow.Author.Tests.{le-leb, lt-leb, leb-true}
 use lib.Dec.{leb}
 use lib.ListN.{length, get_or, take, drop, length-append, length-take, length-drop, drop_of_length-le}
 use lib.Seq.{length-take-le, take_at, drop_at, take-append-le, take-take, take-add, drop-drop, get_or-take, get_or-drop, paste-zero}
-use borrow.Rule.Slice.PartMut.{put_mid}
 use Rattle.cells.specs.Cell.{cell, put, fits, copies, Copies, written, part_of, copied}
 
 -- the n bytes at `at` and the m at o have none in common
@@ -97,13 +96,6 @@ put_put b at us vs h e =
     let g : length (take at b) ≡ at = length-take-le at b (omega arith) in
     let f : take at (put b at us) ≡ take at b = ap (take at) (append_assoc (take at b) us (drop (at + length us) b)) ∙ take_at (take at b) (us ++ drop (at + length us) b) at g in
     rw (f, ← e, drop_put b at us k)
-
--- what the library leaves where it writes to a range
-pub put_lent : (b : List ℕ) (at : ℕ) (us vs : List ℕ) → us ≡ vs → put_mid at (at + length vs - at) b us ≡ put b at vs
-unfolding put
-put_lent b at us vs e =
-    let n : at + length vs - at ≡ length vs = omega arith in
-    rw (e, n, drop-drop (length vs) at b) (sym (append_assoc (take at b) vs (drop (at + length vs) b)))
 
 -- the room past `at`, compared
 same : (s t : Bool) → (s ≡ true → t ≡ true) → (t ≡ true → s ≡ true) → s ≡ t

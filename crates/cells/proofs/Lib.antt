@@ -1,4 +1,4 @@
--- The laws of cells, rows and blocks of columns that callers cite, those of the loop that copies, and that the contracts leave no second result.
+-- The laws of cells, rows and blocks of columns that callers cite, those of the loops, and that the contracts leave no second result.
 pub mod Laws
 pub mod Loops
 pub mod Lines

@@ -1,4 +1,4 @@
--- The loop that copies bytes: after i turns the first i are stored.
+-- The two loops that store bytes: after i turns the first i are stored.
 -- Assumes nothing.
 use Prim.Native.Nat.{ℕ, suc, ◌+◌, ◌≤◌, ◌<◌}
 use mathlib.Core.List.{List}

@@ -1,16 +1,12 @@
--- Numbers in successive places of a table: a loop's step, two runs that make one, a part that is copied, what stands where.
+-- Numbers in successive places of a table: a loop's step, two runs that make one, what stands where.
 -- Assumes nothing.
 use Prim.Native.Nat.{ℕ, ◌+◌, ◌<◌, ◌≤◌}
 use mathlib.Core.Path.{◌≡◌, refl, sym, ◌∙◌}
 use mathlib.Core.List.{List, ◌++◌}
 use native.Mathlib.Omega.{arith}
 use lib.ListN.{length, get_or, set, length-append}
-use lib.Seq.{sets-eq}
-use borrow.Rule.Slice.PartMut.{put_mid}
-use Rattle.std.proofs.Common.{append_assoc}
-use Rattle.std.proofs.lemmas.List.{drop-drop}
 use Rattle.id_tables.specs.Runs.{up_from, length_up_from, up_from_at}
-use Rattle.id_batches.proofs.Setting.{Rest, rest_next, rest_none, up_in, up_here, up_end, up_from_append, set_long, set_two, run_sets}
+use Rattle.id_batches.proofs.Setting.{Rest, rest_next, rest_none, up_in, up_here, up_end, up_from_append, set_long, set_two}
 use Rattle.id_batches.proofs.Numbers.{up_each, up_different}
 use Rattle.id_batches.proofs.Seats.{set_here, set_other}
 use Rattle.store_flush.specs.Flush.{listed}
@@ -21,10 +17,6 @@ module _ {l₀ l vs : List ℕ} {i : ℕ} (place : ℕ) (e : Rest l₀ l (up_fro
 
   pub list_end : length vs ≤ i → l ≡ listed l₀ place vs
   list_end h = rest_none e (up_end place h)
-
--- a part that is copied is that run of entries set
-pub copied : (l vs part : List ℕ) (place k : ℕ) → part ≡ vs → k ≡ length vs → place + length vs ≤ length l → put_mid place k l part ≡ listed l place vs
-copied l vs part place k e q h = rw (e, q, drop-drop) (sym (rw append_assoc at (run_sets l vs place ∙ sets-eq vs l place h)))
 
 -- two runs, the one after the other, are one
 pub listed_two : (l us vs : List ℕ) (place : ℕ) → listed l place (us ++ vs) ≡ listed (listed l place us) (place + length us) vs

@@ -18,12 +18,14 @@ fn list_new(numbers: &mut [u32], place: usize, from: u32, count: u32)
     }
 }
 
-// Recycled numbers.
+// Recycled numbers, one by one, for the same reason as `cells::write`.
 fn list_old(numbers: &mut [u32], place: usize, old: &[u32])
     requires { place + length old.now ≤ length numbers.old }
     ensures { numbers.new ≡ listed numbers.old place old.now }
 {
-    numbers[place..place + old.len()].copy_from_slice(old);
+    for (i, number) in old.iter().enumerate() {
+        numbers[place + i] = *number;
+    }
 }
 
 // The reserved numbers of this head: the new ones first, then the pending ones that are not free.
