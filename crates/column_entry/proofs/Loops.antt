@@ -10,9 +10,10 @@ use native.Mathlib.Numerals.{add-one}
 use native.Mathlib.Omega.{arith}
 use borrow.Author.Tests.{lt-ltb, le-ltb, eq-eqb, ne_eqb}
 use lib.Dec.{eqb}
-use lib.ListN.{length, get_or, drop, drop_of_length-le, get_or-eq_default}
+use lib.ListN.{length, get_or, take, drop, drop_of_length-le, get_or-eq_default}
 use lib.Seq.{drop-cons}
 use Rattle.std.specs.List.{zip, HoldsAt, AllWithin}
+use Rattle.std.proofs.lemmas.List.{get_or-take, length-take-le}
 use Rattle.refusal.specs.Table.{granted, refused, passing}
 use Rattle.decl.proofs.Lists.{below_or_not, any_stop, any_false}
 use Rattle.column_entry.specs.Entry.{is_over, count_rules, wrong_size}
@@ -89,27 +90,35 @@ module _ (types sizes : List ℕ) (t n p : ℕ) where
     unfolding wrong_size
     size_next e = rw (drop-cons types p 0 h, drop-cons sizes p 0 k, add-one p) (simp (ne_eqb _ _ e))
 
--- the first column of the type decides
+-- the first column of the type decides, of those that have a size
 module _ (types sizes : List ℕ) (t n : ℕ) where
-  from_column : (p : ℕ) → p ≤ length types → ((k : ℕ) → k < p → get_or types k 0 ≡ t → ⊥) → wrong_size types sizes t n ≡ wrong_size (drop p types) (drop p sizes) t n
+  from_column : (p : ℕ) → p ≤ min (length types) (length sizes) → ((k : ℕ) → k < p → get_or types k 0 ≡ t → ⊥) → wrong_size types sizes t n ≡ wrong_size (drop p types) (drop p sizes) t n
   from_column zero h f = refl
   from_column (suc p) h f =
       from_column p (omega arith) (λ k l. f k (omega arith))
-      ∙ ⊎_elim
-      (λ (l : p < length sizes). rw (← add-one p) (size_next types sizes t n p (omega arith) l (f p (omega arith))))
-      (λ (l : length sizes ≤ p). size_short types sizes t n p l ∙ sym (size_short types sizes t n (suc p) (omega arith)))
-      (below_or_not p (length sizes))
+      ∙ rw (← add-one p) (size_next types sizes t n p (omega arith) (omega arith) (f p (omega arith)))
 
-  pub size_undeclared : AllWithin (λ x. x ≡ t → ⊥) types 0 (length types) → false ≡ wrong_size types sizes t n
-  size_undeclared f =
-      sym (from_column (length types) (omega arith) (λ k h. f k 0 (omega arith) h) ∙ size_none types sizes t n (length types) (omega arith))
+  module _ (known : ℕ) (m : known ≡ min (length types) (length sizes)) where
+    up_to : (p : ℕ) → p ≤ known → AllWithin (λ x. x ≡ t → ⊥) (take known types) 0 p → wrong_size types sizes t n ≡ wrong_size (drop p types) (drop p sizes) t n
+    up_to p l f =
+        from_column p (omega (arith, m)) (λ k h e. f k 0 (omega arith) h (get_or-take known types k 0 (omega arith) ∙ e))
 
-  module _ (p : ℕ) (first : (p < length types) × HoldsAt (λ x. x ≡ t) types p × AllWithin (λ x. x ≡ t → ⊥) types 0 p) where
-    up_to : wrong_size types sizes t n ≡ wrong_size (drop p types) (drop p sizes) t n
-    up_to = from_column p (omega (arith, first.0)) (λ k h. first.2 k 0 (omega arith) h)
+    have : length (take known types) ≡ known
+    have = length-take-le known types (omega (arith, m))
 
-    pub size_at_short : length sizes ≤ p → false ≡ wrong_size types sizes t n
-    size_at_short l = sym (up_to ∙ size_short types sizes t n p l)
+    pub size_undeclared : AllWithin (λ x. x ≡ t → ⊥) (take known types) 0 (length (take known types)) → false ≡ wrong_size types sizes t n
+    size_undeclared f =
+        sym (up_to known (omega arith) (subst (AllWithin (λ x. x ≡ t → ⊥) (take known types) 0) have f)
+        ∙ ⊎_elim
+        (λ (l : length types < length sizes). size_none types sizes t n known (omega (arith, m)))
+        (λ (l : length sizes ≤ length types). size_short types sizes t n known (omega (arith, m)))
+        (below_or_not (length types) (length sizes)))
 
-    pub size_at : p < length sizes → not (eqb (get_or sizes p 0) n) ≡ wrong_size types sizes t n
-    size_at l = sym (up_to ∙ size_here types sizes t n p first.0 l (first.1 0))
+    module _ (p : ℕ) (first : (p < length (take known types)) × HoldsAt (λ x. x ≡ t) (take known types) p × AllWithin (λ x. x ≡ t → ⊥) (take known types) 0 p) where
+      pub here : p < length sizes
+      here = omega (arith, m, have, first.0)
+
+      pub size_at : not (eqb (get_or sizes p 0) n) ≡ wrong_size types sizes t n
+      size_at =
+          sym (up_to p (omega (arith, have, first.0)) first.2
+          ∙ size_here types sizes t n p (omega (arith, m, have, first.0)) here (sym (get_or-take known types p 0 (omega (arith, have, first.0))) ∙ first.1 0))

@@ -22,7 +22,9 @@ const NOWHERE: Span = Span {
     bytes: 0,
 };
 
-// An archetype's part of each table; at the number of archetypes, what all of them take. All 0 where there is none.
+// An archetype's part of each table; at the number of archetypes, what all of them take. All 0 where there is none. Inlined
+// for the same reason as what it calls.
+#[inline(always)]
 pub fn span(declaration: &Declaration<'_>, archetype: usize) -> Span
     ensures { result ≡ span_in (decl_in declaration.now) archetype }
 {
@@ -91,12 +93,14 @@ pub fn row_tested(rows: &[u32], counts: &[u32], archetype: usize, row: Row) -> R
     Ok(())
 }
 
-// Whether a type is declared, of another size.
+// Whether a type is declared, of another size. It is asked of tables that no test has seen, whose types may be many more than
+// the sizes: those past them are not looked at.
 pub fn wrong_size(types: &[u32], sizes: &[u32], kind: u32, size: usize) -> bool
     ensures { result ≡ wrong_size types.now sizes.now kind size }
 {
-    let Some(p) = types.iter().position(|declared| *declared == kind) else {
+    let known = types.len().min(sizes.len());
+    let Some(p) = types[..known].iter().position(|declared| *declared == kind) else {
         return false;
     };
-    p < sizes.len() && sizes[p] as usize != size
+    sizes[p] as usize != size
 }

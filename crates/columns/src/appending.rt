@@ -6,7 +6,6 @@ ghost use Rattle.row_step.specs.Tables.{tables_of, rows_in};
 ghost use Rattle.column_entry.specs.Kept.{Kept};
 ghost use Rattle.columns.specs.Calls.{allocated_of, allocate_rules, allocated_in};
 
-use crate::part_of;
 use decl::Declaration;
 use handle::{Number, Row};
 use refusal::Refusal;
@@ -42,9 +41,9 @@ fn allocate_step(
         × (numbers.new ≡ set numbers.old (first_row (decl_in declaration.now) archetype + get_or counts.old archetype 0) number.0)
         × (counts.new ≡ set counts.old archetype (get_or counts.old archetype 0 + 1)) }
 {
-    let block = part_of(declaration, archetype).block;
+    let first = column_entry::span(declaration, archetype).row;
     let count = counts[archetype];
-    row_step::set_number(numbers, block.first, Row(count), number);
+    row_step::set_number(numbers, first, Row(count), number);
     counts[archetype] = count + 1;
     Row(count)
 }

@@ -136,7 +136,9 @@ impl<'a> Declaration<'a> {
         })
     }
 
-    // The part of each table that is an archetype's; at the number of archetypes, what all of them take.
+    // The part of each table that is an archetype's; at the number of archetypes, what all of them take. Inlined: most
+    // callers want one number of it, and the others are then not reckoned.
+    #[inline(always)]
     pub fn span_of(&self, archetype: usize) -> Result<Span, Refusal>
         ensures { answer_of result ≡ spanned (decl_in self.now) archetype }
     {
