@@ -15,6 +15,10 @@ head_of_lem ws r s d e = d ∙ sym e
 pub put_head : (h : Head) (ws ws' : List ℕ) → Four ws → Four ws' → head_of ws ≡ h → head_of ws' ≡ h → ws ≡ ws'
 put_head h ws ws' f f' d e = heads_one f f' (d ∙ sym e)
 
+-- of what crosses, for each type that has numbers
+pub four : {T : Type 0} (numbers : T → List ℕ) (granted : T) (r s : List ℕ) → r ≡ numbers granted → s ≡ numbers granted → r ≡ s
+four numbers granted r s d e = d ∙ sym e
+
 pub cross : {T : Type 0} (numbers : T → List ℕ) (answer : Result T Refusal) → Only numbers (answer_of answer)
 cross numbers answer = only numbers (answer_of answer)
 

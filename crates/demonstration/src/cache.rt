@@ -11,13 +11,13 @@ pub const KEY: u32 = 2;
 pub const VERDICT: u32 = 3;
 
 // Archetypes 0 to 3 hold nothing; a cost; a cost and a key; a cost, a key and a verdict.
-const ROWS: [u32; 4] = [4, 4, 6, 6];
+pub const ROWS: [u32; 4] = [4, 4, 6, 6];
 
-const WIDTHS: [u32; 4] = [0, 1, 2, 3];
+pub const WIDTHS: [u32; 4] = [0, 1, 2, 3];
 
-const TYPES: [u32; 6] = [COST, COST, KEY, COST, KEY, VERDICT];
+pub const TYPES: [u32; 6] = [COST, COST, KEY, COST, KEY, VERDICT];
 
-const SIZES: [u32; 6] = [4, 4, 8, 4, 8, 1];
+pub const SIZES: [u32; 6] = [4, 4, 8, 4, 8, 1];
 
 pub const DECLARATION: Declaration<'static> = Declaration {
     rows: &ROWS,
@@ -27,7 +27,7 @@ pub const DECLARATION: Declaration<'static> = Declaration {
 };
 
 // What the rows of all archetypes take: 4 × 4 + 6 × 12 + 6 × 13.
-const BYTES: usize = 166;
+pub const BYTES: usize = 166;
 
 #[derive(Clone, Copy)]
 pub struct Cache {

@@ -30,6 +30,10 @@ line list at = one _
 pub next : (list : List ℕ) (at : ℕ) → One (next_at list at)
 next list at = one _
 
+-- for each type of value and of table
+pub keep : {V T : Type 0} (keeps : V → T) (value : V) → One (keeps value)
+keep keeps value = one _
+
 pub fill : {V T : Type 0} (keeps : V → T) (table : List T) (values : List V) → One (filled keeps table values)
 fill keeps table values = one _
 

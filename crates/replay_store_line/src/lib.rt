@@ -11,29 +11,29 @@ pub const ALL: usize = 193;
 
 const HEAD: usize = 0;
 
-const ROWS: usize = 4;
+pub const ROWS: usize = 4;
 
-const WIDTHS: usize = 10;
+pub const WIDTHS: usize = 10;
 
-const TYPES: usize = 16;
+pub const TYPES: usize = 16;
 
-const SIZES: usize = 25;
+pub const SIZES: usize = 25;
 
-const GENERATIONS: usize = 34;
+pub const GENERATIONS: usize = 34;
 
-const ARCHETYPES: usize = 50;
+pub const ARCHETYPES: usize = 50;
 
-const INDICES: usize = 66;
+pub const INDICES: usize = 66;
 
-const PENDING: usize = 82;
+pub const PENDING: usize = 82;
 
-const NUMBERS: usize = 98;
+pub const NUMBERS: usize = 98;
 
-const COUNTS: usize = 114;
+pub const COUNTS: usize = 114;
 
-const BYTES: usize = 120;
+pub const BYTES: usize = 120;
 
-const WORDS: usize = 184;
+pub const WORDS: usize = 184;
 
 // The tables, each in an array of its own.
 #[derive(Clone, Copy)]
@@ -78,25 +78,54 @@ impl Tables {
     pub fn keep(&self, list: &mut [u64], pending: usize, counts: usize)
         ensures { list.new ≡ kept_all list.old self.now.head self.now.generations self.now.archetypes self.now.indices (take (min pending 16) self.now.pending) self.now.numbers (take (min counts 6) self.now.counts) self.now.bytes self.now.words }
     {
-        keep(list, HEAD, &self.head);
-        keep(list, GENERATIONS, &self.generations);
-        keep(list, ARCHETYPES, &self.archetypes);
-        keep(list, INDICES, &self.indices);
-        keep(list, PENDING, &self.pending[..pending.min(16)]);
-        keep(list, NUMBERS, &self.numbers);
-        keep(list, COUNTS, &self.counts[..counts.min(6)]);
-        keep(list, BYTES, &self.bytes);
-        keep(list, WORDS, &self.words);
+        keep(
+            list,
+            &self.head,
+            &self.generations,
+            &self.archetypes,
+            &self.indices,
+            &self.pending[..pending.min(16)],
+            &self.numbers,
+            &self.counts[..counts.min(6)],
+            &self.bytes,
+            &self.words,
+        );
     }
 }
 
 // A table's values kept from a position on, as far as the list goes.
-fn keep<V: Copy, T: Copy + Keeps<V>>(list: &mut [T], at: usize, values: &[V])
+pub fn keep_table<V: Copy, T: Copy + Keeps<V>>(list: &mut [T], at: usize, values: &[V])
     ensures { list.new ≡ kept T.keeps list.old at values.now }
 {
     if at < list.len() {
         fill(&mut list[at..], values);
     }
+}
+
+// What a call leaves of all tables that it may change, each of any length.
+pub fn keep(
+    list: &mut [u64],
+    head: &[u64],
+    generations: &[u32],
+    archetypes: &[u32],
+    indices: &[u32],
+    pending: &[u32],
+    numbers: &[u32],
+    counts: &[u32],
+    bytes: &[u8],
+    words: &[u64],
+)
+    ensures { list.new ≡ kept_all list.old head.now generations.now archetypes.now indices.now pending.now numbers.now counts.now bytes.now words.now }
+{
+    keep_table(list, HEAD, head);
+    keep_table(list, GENERATIONS, generations);
+    keep_table(list, ARCHETYPES, archetypes);
+    keep_table(list, INDICES, indices);
+    keep_table(list, PENDING, pending);
+    keep_table(list, NUMBERS, numbers);
+    keep_table(list, COUNTS, counts);
+    keep_table(list, BYTES, bytes);
+    keep_table(list, WORDS, words);
 }
 
 // How much of the pending list and of the counts a call is lent.

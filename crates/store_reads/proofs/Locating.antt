@@ -49,7 +49,7 @@ module _ (d : Decl) (i : Ids) (numbers counts : List ℕ) (g n : ℕ) where
         (λ q. q.0) (got_parts i g n e)
 
     -- any other is that of a live number
-    alive : (p.index.0 ≡ MAX → ⊥) → (live i g n ≡ true) × (p ≡ place_at i n)
+    pub alive : (p.index.0 ≡ MAX → ⊥) → (live i g n ≡ true) × (p ≡ place_at i n)
     alive x = ⊎_elim (λ q. q) (λ q. absurd (x (ap (λ (o : Place). o.index.0) q.1))) (got_parts i g n e)
 
     pub seen_reserved : p.index.0 ≡ MAX → granted None ≡ place_seen d i numbers counts g n

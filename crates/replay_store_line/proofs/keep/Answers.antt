@@ -1,9 +1,8 @@
--- The list from a position on, if it goes so far.
-use Rattle.replay_store_line.proofs.Kept.{within, past}
+-- Table after table.
+use Rattle.replay_store_line.specs.Store.{kept_all}
 use Rattle.replay_store_line.proofs.keep.Goals as goal
 
-pub returns-then-at-list : goal.returns-then-at-list
-returns-then-at-list g c = within g.T.Keeps.keeps c.args.list.now c.args.at c.args.values.now _ c.if-at-list.true c.fill.ensures
-
-pub returns-else-at-list : goal.returns-else-at-list
-returns-else-at-list g c = past g.T.Keeps.keeps c.args.list.now c.args.at c.args.values.now c.if-at-list.false
+pub returns : goal.returns
+unfolding kept_all
+returns c =
+    rw (c.keep_table-9.ensures, c.keep_table-8.ensures, c.keep_table-7.ensures, c.keep_table-6.ensures, c.keep_table-5.ensures, c.keep_table-4.ensures, c.keep_table-3.ensures, c.keep_table-2.ensures, c.keep_table.ensures)
